@@ -1,0 +1,11 @@
+pub mod Nan
+pub mod Counts
+pub mod Zero
+pub mod Isqrt
+pub mod Candidate
+pub mod Patterns
+pub mod SquareRoot
+pub mod NearOne
+pub mod Bits
+pub mod Rounding
+pub mod Worked

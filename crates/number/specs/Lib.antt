@@ -1,0 +1,4 @@
+pub mod Exact
+pub mod Root
+pub mod Steps
+pub mod Worked

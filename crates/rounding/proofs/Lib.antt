@@ -1,0 +1,9 @@
+pub mod Integers
+pub mod Counts
+pub mod Grid
+pub mod Round
+pub mod Sum
+pub mod Operations
+pub mod SquareRoot
+pub mod Order
+pub mod Laws
