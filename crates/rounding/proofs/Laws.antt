@@ -7,8 +7,8 @@ pub use Rattle.rounding.proofs.Counts.{neg-number, neg-count, neg-sign,
 -- each operation is one rounding of its operands' counts; the root is one by its definition
 pub use Rattle.rounding.proofs.Counts.{add-is, mul-is, div-is}
 pub use Rattle.rounding.proofs.Operations.{sub-is}
--- a result is a number where the exact one is within the limit
-pub use Rattle.rounding.proofs.Operations.{one-pos, one-large, one-limit, add-number, sub-number, mul-number, div-number}
+-- a result is a number where the exact one is within the limit; a sum is one only of numbers
+pub use Rattle.rounding.proofs.Operations.{one-pos, one-large, one-limit, add-number, sub-number, mul-number, div-number, add-operands}
 -- |rounded - exact| ≤ |exact| / 2 ^ 53, and half a count more for a product or a quotient; for a sum and a difference also at most either operand's magnitude
 pub use Rattle.rounding.proofs.Sum.{add-error}
 pub use Rattle.rounding.proofs.Operations.{sub-error, mul-error, div-error}

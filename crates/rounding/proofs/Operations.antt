@@ -8,7 +8,7 @@ use native.Mathlib.Omega.{arith}
 use lib.Dec.{T, ltb, lit≤}
 use lib.Pow.{pow-pos}
 use lib.IntN.{ℤ, natAbs, negℤ, _+ℤ_, _-ℤ_}
-use lib.Ieee.{Float, binary64, unlike, round, neg, sum, add, sub, mul, div}
+use lib.Ieee.{Float, nan, inf, fin, binary64, unlike, round, neg, sum, add, sub, mul, div}
 use lib.Ieee.Scale.{finite}
 use Rattle.number.specs.Exact.{count, negative, signed, exact}
 use Rattle.rounding.specs.Number.{Number, one, limit, plusPart, minusPart}
@@ -94,6 +94,21 @@ add-number {x} {y} X Y h = subst Number (sym (add-is X Y)) (each (negative x) (n
         pick true q = at s (a + b) (omega arith)
         pick false true = at t (b - a) (omega arith)
         pick false false = at (s && ltb b a) (a - b) (omega arith)
+
+-- a sum that is finite has finite operands
+pub add-operands : (x y : Float) → T (finite (add binary64 x y)) → T (finite x) × T (finite y)
+unfolding add
+add-operands nan y h = absurd h
+add-operands (inf s) nan h = absurd h
+add-operands (inf s) (inf t) h = absurd (go (Bool·beq s t) h)
+  where
+    go : (c : Bool) → T (finite (cond c (inf s) nan)) → ⊥
+    go true h = h
+    go false h = h
+add-operands (inf s) (fin t n d) h = absurd h
+add-operands (fin s m e) nan h = absurd h
+add-operands (fin s m e) (inf t) h = absurd h
+add-operands (fin s m e) (fin t n d) h = (tt, tt)
 
 -- a sum of two that are not negative is not
 pub add-sign : {x y : Float} → Number x → Number y → negative x ≡ false → negative y ≡ false → T (finite (add binary64 x y)) → negative (add binary64 x y) ≡ false

@@ -1,9 +1,10 @@
-// Eight little-endian bytes as a word, and a word as a number: every pattern is read, a NaN's too.
+// Eight little-endian bytes as a word, a word as a number, and back: every pattern is read, a NaN's too.
 ghost use mathlib.Core.Path.{_≡_};
 ghost use Prim.Native.Nat.{_+_, _≤_};
 ghost use lib.ListN.{length};
+ghost use lib.Seq.{sets};
 ghost use lib.Ieee.{binary64, ofBits, toBits};
-ghost use Rattle.words.specs.Word.{joined, wordAt};
+ghost use Rattle.words.specs.Word.{joined, wordAt, valueAt, bytesOf};
 
 // The number of eight bytes, the lowest first.
 fn join(a: u8, b: u8, c: u8, d: u8, e: u8, f: u8, g: u8, h: u8) -> u64
@@ -54,4 +55,35 @@ pub fn to_bits(x: f64) -> u64
         return 0x7ff8_0000_0000_0000;
     }
     f64::to_bits(x)
+}
+
+// The number at s[at..at + 8].
+pub fn value(s: &[u8], at: usize) -> f64
+    requires { ⌜ at + 8 ≤ length (now s) ⌝ }
+    ensures { λ r. ⌜ r ≡ valueAt (now (s .entry)) at ⌝ }
+{
+    of_bits(word(s, at))
+}
+
+// Stores a word at out[at..at + 8].
+pub fn put_word(out: &mut [u8], at: usize, n: u64)
+    requires { ⌜ at + 8 ≤ length (now out) ⌝ }
+    ensures { λ _. ⌜ now (out .exit) ≡ sets (now (out .entry)) at (bytesOf n) ⌝ }
+{
+    out[at] = (n % 256) as u8;
+    out[at + 1] = (n / 0x100 % 256) as u8;
+    out[at + 2] = (n / 0x1_0000 % 256) as u8;
+    out[at + 3] = (n / 0x100_0000 % 256) as u8;
+    out[at + 4] = (n / 0x1_0000_0000 % 256) as u8;
+    out[at + 5] = (n / 0x100_0000_0000 % 256) as u8;
+    out[at + 6] = (n / 0x1_0000_0000_0000 % 256) as u8;
+    out[at + 7] = (n / 0x100_0000_0000_0000 % 256) as u8;
+}
+
+// Stores a number at out[at..at + 8].
+pub fn put_value(out: &mut [u8], at: usize, x: f64)
+    requires { ⌜ at + 8 ≤ length (now out) ⌝ }
+    ensures { λ _. ⌜ now (out .exit) ≡ sets (now (out .entry)) at (bytesOf (toBits binary64 x)) ⌝ }
+{
+    put_word(out, at, to_bits(x));
 }

@@ -1,0 +1,3 @@
+pub mod ByteBlocks
+pub mod Stored
+pub mod Outputs

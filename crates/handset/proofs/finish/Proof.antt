@@ -1,0 +1,26 @@
+-- `handset::finish` meets its contract. Assumes nothing.
+use mathlib.Core.Path.{refl}
+use borrow.Author.Needs.{needs}
+use Rattle.handset.specs.Entries as Entries
+use Rattle.handset.proofs.finish.Statement.{statement}
+use Rattle.handset.proofs.finish.Tie as tie
+
+returns : tie.Need-returns
+unfolding Entries.number Entries.written
+returns c = rw (c .before .before .before .before .before .answer .given .1) (refl, c .before .before .put-element .ensures)
+
+returns-2 : tie.Need-returns-2
+unfolding Entries.number Entries.written
+returns-2 c = rw (c .before .before .answer2 .given .1) (c .number .ensures, refl)
+
+pub finish-spec : {M : Type 1} → statement M
+finish-spec =
+    tie.close
+    (tie.spec
+    (λ c. search needs)
+    (λ c κs. search needs)
+    (λ c. search needs)
+    (λ c κs. search needs)
+    (λ c. search needs)
+    returns
+    returns-2)

@@ -1,0 +1,9 @@
+pub mod Written
+pub mod Rotation
+pub mod Group
+pub mod Adjoint
+pub mod AdjointProduct
+pub mod Model
+pub mod Hat
+pub mod Action
+pub mod Orders

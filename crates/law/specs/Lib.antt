@@ -1,0 +1,11 @@
+pub mod Arithmetic
+pub mod Vector
+pub mod Quaternion
+pub mod Matrix
+pub mod Rows
+pub mod Rotation
+pub mod Galilean
+pub mod Exact
+pub mod Rounded
+pub mod Patterns
+pub mod Orders

@@ -1,0 +1,19 @@
+-- The arithmetic of the code: binary64, each operation rounded as IEEE 754 says. Definitions only.
+use lib.Ieee.{Float, ofBits, binary64}
+use lib.Ieee as Ieee
+use Rattle.number.specs.Root.{squareRoot}
+use Rattle.law.specs.Arithmetic.{Arithmetic}
+
+abbrev pub rounded : Arithmetic Float
+rounded =
+    record {
+      zero = ofBits binary64 0;
+      one = ofBits binary64 0x3ff0_0000_0000_0000;
+      two = ofBits binary64 0x4000_0000_0000_0000;
+      add = Ieee.add binary64;
+      sub = Ieee.sub binary64;
+      mul = Ieee.mul binary64;
+      neg = Ieee.neg;
+      div = Ieee.div binary64;
+      root = squareRoot;
+    }

@@ -1,0 +1,4 @@
+pub mod Records
+pub mod Vectors
+pub mod Quaternions
+pub mod Matrices

@@ -1,0 +1,1 @@
+// Commutative rings: a normaliser of expressions, with its soundness. Laws alone, no code.

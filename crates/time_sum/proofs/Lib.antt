@@ -1,0 +1,4 @@
+pub mod Bound
+pub mod Times
+pub mod TimeSum
+pub mod ByteChain

@@ -1,0 +1,21 @@
+-- The proved lines of the bench list, by computation. Assumes nothing.
+use mathlib.Core.Path.{_≡_, refl}
+use mathlib.Core.List.{map}
+use lib.Count.{trailingZeros}
+use lib.Ieee.{ofFields, ofBits, toBits, add, sub, mul, div, neg, lt, sum, round, size, span, climb, odd, units}
+use Rattle.number.specs.Exact.{abs, count}
+use Rattle.number.specs.Root.{isqrt, nearestRoot, squareRoot}
+use Rattle.law.specs.Vector as Vector
+use Rattle.law.specs.Quaternion as Quaternion
+use Rattle.law.specs.Rotation as Rotation
+use Rattle.law.specs.Galilean as Galilean
+use Rattle.linear.specs.Quaternions as Quaternions
+use Rattle.checks.specs.Refusals as Refusals
+use Rattle.checks.specs.Checks as Checks
+use Rattle.sgal3.specs.Elements as Elements
+use Rattle.sgal3.specs.Calls as Calls
+use Rattle.worked_examples.specs.BenchList.{Example, benchList}
+
+pub bench-list : map (λ (e : Example). e .computed) benchList ≡ map (λ (e : Example). e .said) benchList
+unfolding benchList Calls.compose Calls.inverse Calls.chain Calls.chainBlocks Calls.chainFrom Calls.checkElement Calls.composeAnswers Calls.inverseAnswer Calls.firstRefusal Calls.unlessOverflow Elements.identity Elements.compose Elements.inverse Elements.coeffs Elements.elementOf Checks.validateSgal3Params Checks.checkParamBlock Checks.checkUnitQuaternion Checks.checkNorm Checks.normOf Checks.allFinite Checks.tolerance Refusals.number Refusals.figures Refusals.earlier Quaternions.rotate Galilean.identity Galilean.compose Galilean.composeAt Galilean.inverse Galilean.inverseAt Galilean.rotationImpl Rotation.unitQuaternion Rotation.inverse Quaternion.identity Quaternion.mul Quaternion.normalize Quaternion.divide Quaternion.norm Quaternion.normSquared Quaternion.conjugate Quaternion.rotate Quaternion.vector Vector.zero Vector.add Vector.sub Vector.neg Vector.scale Vector.cross abs squareRoot nearestRoot count isqrt add sub mul div neg lt sum round size span climb odd units trailingZeros ofFields ofBits toBits
+bench-list = refl

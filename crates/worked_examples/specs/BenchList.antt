@@ -1,0 +1,93 @@
+-- The paper's bench list, its proved lines, as one list of pairs: what the definitions of the contracts give, and what the paper says. `bench-list`
+-- (proofs/BenchList.antt) proves it. Values stand as bit patterns, a refusal as its number and its figures.
+use Prim.Native.Nat.{ℕ, _+_}
+use mathlib.Core.List.{List, [], _∷_, _++_, map}
+use lib.Ieee.{Float, binary64, ofBits, toBits}
+use Rattle.checks.specs.Refusals.{Figures, none, lengths, norm, number, figures}
+use Rattle.checks.specs.Checks.{validateSgal3Params}
+use Rattle.checks.specs.declared.Refusal.{Refusal}
+use Rattle.checks.specs.declared.Check.{Check}
+use Rattle.checks.specs.declared.Check.the-variants.{Passed, Refused as Check·Refused}
+use Rattle.law.specs.Patterns.{zero, minusZero, half, minusHalf, one, minusOne, two, minusTwo, twoAndAHalf, three, minusThree, four, minusFour, ten}
+use Rattle.linear.specs.Quaternions.{rotate}
+use Rattle.linear.specs.declared.Vec3.{Vec3}
+use Rattle.linear.specs.declared.Quaternion.{Quaternion}
+use Rattle.sgal3.specs.Elements as Elements
+use Rattle.sgal3.specs.Calls as Calls
+use Rattle.sgal3.specs.declared.Answer.{Answer}
+use Rattle.sgal3.specs.declared.Answer.the-variants.{Done, Refused}
+
+pub record Example : Type 0 where
+  pub computed : List ℕ
+  pub said : List ℕ
+
+-- ---- what a call came to, as numbers
+abbrev carried : Figures → List ℕ
+carried none = []
+carried (lengths expected actual) = expected ∷ actual ∷ []
+carried (norm n) = toBits binary64 n ∷ []
+
+abbrev refusal : Refusal → List ℕ
+refusal r = number r ∷ carried (figures r)
+
+abbrev answer : Answer → List ℕ
+answer (Done e) = map (toBits binary64) (Elements.coeffs e)
+answer (Refused r) = refusal r
+
+-- 0 for a check that is passed
+abbrev check : Check → List ℕ
+check Passed = 0 ∷ []
+check (Check·Refused r) = refusal r
+
+abbrev point : Vec3 → List ℕ
+point p = toBits binary64 (p .x) ∷ toBits binary64 (p .y) ∷ toBits binary64 (p .z) ∷ []
+
+abbrev nan : ℕ
+nan = 0x7ff8_0000_0000_0000
+
+abbrev floats : List ℕ → List Float
+floats l = map (ofBits binary64) l
+
+-- ---- A = [1,2,3 | 1,0,0,0 | 4,0,0 | 0.5], B = [1,1,1 | 1,0,0,0 | 0,2,0 | 2]
+abbrev A : List Float
+A = floats (one ∷ two ∷ three ∷ one ∷ zero ∷ zero ∷ zero ∷ four ∷ zero ∷ zero ∷ half ∷ [])
+
+abbrev B : List Float
+B = floats (one ∷ one ∷ one ∷ one ∷ zero ∷ zero ∷ zero ∷ zero ∷ two ∷ zero ∷ two ∷ [])
+
+-- the identity's block but for its w, and with its time
+abbrev block : ℕ → ℕ → List Float
+block w s = floats (zero ∷ zero ∷ zero ∷ w ∷ zero ∷ zero ∷ zero ∷ zero ∷ zero ∷ zero ∷ s ∷ [])
+
+abbrev quaternion : ℕ → ℕ → ℕ → ℕ → Quaternion
+quaternion w x y z = record { w = ofBits binary64 w; x = ofBits binary64 x; y = ofBits binary64 y; z = ofBits binary64 z }
+
+abbrev p123 : Vec3
+p123 = record { x = ofBits binary64 one; y = ofBits binary64 two; z = ofBits binary64 three }
+
+abbrev says : List ℕ → List ℕ → Example
+says computed said = record { computed = computed; said = said }
+
+unfoldable pub benchList : List Example
+benchList =
+    -- A then B; inverse A; the inverse of the identity: every zero turns into -0
+    says (answer (Calls.compose A B)) (ten ∷ three ∷ four ∷ one ∷ zero ∷ zero ∷ zero ∷ four ∷ two ∷ zero ∷ twoAndAHalf ∷ [])
+    ∷ says (answer (Calls.inverse A)) (one ∷ minusTwo ∷ minusThree ∷ one ∷ minusZero ∷ minusZero ∷ minusZero ∷ minusFour ∷ minusZero ∷ minusZero ∷ minusHalf ∷ [])
+    ∷ says (answer (Calls.inverse (block one zero)))
+    (minusZero ∷ minusZero ∷ minusZero ∷ one ∷ minusZero ∷ minusZero ∷ minusZero ∷ minusZero ∷ minusZero ∷ minusZero ∷ minusZero ∷ [])
+    -- (0.5,0.5,0.5,0.5) rotates (1,2,3) to (3,1,2), and (0,0,0,1) to (-1,-2,3)
+    ∷ says (point (rotate (quaternion half half half half) p123)) (three ∷ one ∷ two ∷ [])
+    ∷ says (point (rotate (quaternion zero zero zero one) p123)) (minusOne ∷ minusTwo ∷ three ∷ [])
+    -- w = 1 + 2 ^ -20 is accepted; w = 1 + 2 ^ -19, 2 ^ 511: 3 with that norm; 2 ^ 512: 2; all four zero: 3, norm 0
+    ∷ says (check (validateSgal3Params (block 0x3ff0_0001_0000_0000 zero))) (0 ∷ [])
+    ∷ says (check (validateSgal3Params (block 0x3ff0_0002_0000_0000 zero))) (3 ∷ 0x3ff0_0002_0000_0000 ∷ [])
+    ∷ says (check (validateSgal3Params (block 0x5fe0_0000_0000_0000 zero))) (3 ∷ 0x5fe0_0000_0000_0000 ∷ [])
+    ∷ says (check (validateSgal3Params (block 0x5ff0_0000_0000_0000 zero))) (2 ∷ [])
+    ∷ says (check (validateSgal3Params (block zero zero))) (3 ∷ zero ∷ [])
+    -- ten values, one of them a NaN: 1; a NaN time and norm 2: 2
+    ∷ says (answer (Calls.inverse (floats (one ∷ two ∷ nan ∷ one ∷ zero ∷ zero ∷ zero ∷ four ∷ zero ∷ zero ∷ [])))) (1 ∷ 11 ∷ 10 ∷ [])
+    ∷ says (answer (Calls.inverse (block two nan))) (2 ∷ [])
+    -- the empty chain is the identity; the chain of A and B is A then B
+    ∷ says (answer (Calls.chain [])) (zero ∷ zero ∷ zero ∷ one ∷ zero ∷ zero ∷ zero ∷ zero ∷ zero ∷ zero ∷ zero ∷ [])
+    ∷ says (answer (Calls.chain (A ++ B))) (ten ∷ three ∷ four ∷ one ∷ zero ∷ zero ∷ zero ∷ four ∷ two ∷ zero ∷ twoAndAHalf ∷ [])
+    ∷ []

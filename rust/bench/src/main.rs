@@ -1,0 +1,238 @@
+//! handset_bench: times the C entries of the static library beside the same calls in plain Rust, and prints a table.
+//!
+//! All are called through a pointer to an `extern "C"` function. Rounds of the candidates alternate, and a figure is the median
+//! of its rounds. First all answers are compared, bit for bit.
+mod plain;
+
+use handset::{Element, CHAIN_MOST, ELEMENT_BYTES};
+use plain::{Shared, Straight};
+use std::hint::black_box;
+use std::time::Instant;
+
+extern "C" {
+    fn sgal3_compose(
+        left: *const u8,
+        left_len: usize,
+        right: *const u8,
+        right_len: usize,
+        out: *mut u8,
+        out_len: usize,
+    ) -> u32;
+    fn sgal3_inverse(block: *const u8, block_len: usize, out: *mut u8, out_len: usize) -> u32;
+    fn sgal3_chain(blocks: *const u8, blocks_len: usize, out: *mut u8, out_len: usize) -> u32;
+}
+
+type OfTwo = unsafe extern "C" fn(*const u8, usize, *const u8, usize, *mut u8, usize) -> u32;
+type OfOne = unsafe extern "C" fn(*const u8, usize, *mut u8, usize) -> u32;
+type Block = [u8; ELEMENT_BYTES];
+
+/// The three calls of one candidate.
+#[derive(Clone, Copy)]
+struct Entries {
+    compose: OfTwo,
+    inverse: OfOne,
+    chain: OfOne,
+}
+
+const CANDIDATES: [Entries; 3] = [
+    Entries {
+        compose: sgal3_compose,
+        inverse: sgal3_inverse,
+        chain: sgal3_chain,
+    },
+    Entries {
+        compose: plain::compose::<Straight>,
+        inverse: plain::inverse::<Straight>,
+        chain: plain::chain::<Straight>,
+    },
+    Entries {
+        compose: plain::compose::<Shared>,
+        inverse: plain::inverse::<Shared>,
+        chain: plain::chain::<Shared>,
+    },
+];
+
+impl Entries {
+    fn compose(&self, left: &[u8], right: &[u8], out: &mut Block) -> u32 {
+        let f = self.compose;
+        // SAFETY: each pointer and length are those of one slice, and `out` is borrowed mutably, so it overlaps no input.
+        unsafe {
+            f(
+                left.as_ptr(),
+                left.len(),
+                right.as_ptr(),
+                right.len(),
+                out.as_mut_ptr(),
+                out.len(),
+            )
+        }
+    }
+
+    fn inverse(&self, block: &[u8], out: &mut Block) -> u32 {
+        let f = self.inverse;
+        // SAFETY: each pointer and length are those of one slice, and `out` is borrowed mutably, so it doesn't overlap `block`.
+        unsafe { f(block.as_ptr(), block.len(), out.as_mut_ptr(), out.len()) }
+    }
+
+    fn chain(&self, blocks: &[u8], out: &mut Block) -> u32 {
+        let f = self.chain;
+        // SAFETY: each pointer and length are those of one slice, and `out` is borrowed mutably, so it doesn't overlap `block`.
+        unsafe { f(blocks.as_ptr(), blocks.len(), out.as_mut_ptr(), out.len()) }
+    }
+}
+
+/// A round: one call's work on all steps. The sum of the numbers returned, and the last output, are handed on so that
+/// no call can be left out.
+type Round = fn(&Entries, &[Block], &mut Block) -> u32;
+
+fn chain_round(entries: &Entries, steps: &[Block], out: &mut Block) -> u32 {
+    entries.chain(steps.as_flattened(), out)
+}
+
+fn compose_round(entries: &Entries, steps: &[Block], out: &mut Block) -> u32 {
+    let pairs = steps.iter().zip(steps.iter().cycle().skip(1));
+    pairs.map(|(a, b)| entries.compose(a, b, out)).sum()
+}
+
+fn inverse_round(entries: &Entries, steps: &[Block], out: &mut Block) -> u32 {
+    steps.iter().map(|a| entries.inverse(a, out)).sum()
+}
+
+const ROUNDS: usize = 401;
+
+/// The median nanoseconds of a step of each candidate.
+fn times(round: Round, steps: &[Block]) -> [f64; CANDIDATES.len()] {
+    let mut rounds = CANDIDATES.map(|_| Vec::with_capacity(ROUNDS));
+    let mut out = [0; ELEMENT_BYTES];
+    for _ in 0..ROUNDS {
+        for (entries, list) in CANDIDATES.iter().zip(&mut rounds) {
+            let start = Instant::now();
+            let refused = round(black_box(entries), black_box(steps), black_box(&mut out));
+            list.push(start.elapsed().as_nanos() as f64 / steps.len() as f64);
+            assert_eq!(refused, 0, "a step of the benchmark was refused");
+        }
+    }
+    rounds.map(|mut list| {
+        list.sort_by(f64::total_cmp);
+        list[ROUNDS / 2]
+    })
+}
+
+/// The answers of one candidate to all calls of the rounds: of the chain, of each compose, of each inverse.
+fn answers(entries: &Entries, steps: &[Block]) -> Vec<(u32, Block)> {
+    let answer = |call: &dyn Fn(&mut Block) -> u32| {
+        let mut out = [0; ELEMENT_BYTES];
+        let number = call(&mut out);
+        (number, out)
+    };
+    let mut list = vec![answer(&|out| entries.chain(steps.as_flattened(), out))];
+    for (a, b) in steps.iter().zip(steps.iter().cycle().skip(1)) {
+        list.push(answer(&|out| entries.compose(a, b, out)));
+        list.push(answer(&|out| entries.inverse(a, out)));
+    }
+    list
+}
+
+/// The generator splitmix64.
+struct Random(u64);
+
+impl Random {
+    fn next(&mut self) -> u64 {
+        self.0 = self.0.wrapping_add(0x9e37_79b9_7f4a_7c15);
+        let mut z = self.0;
+        z = (z ^ (z >> 30)).wrapping_mul(0xbf58_476d_1ce4_e5b9);
+        z = (z ^ (z >> 27)).wrapping_mul(0x94d0_49bb_1331_11eb);
+        z ^ (z >> 31)
+    }
+
+    /// A number between -1 and 1.
+    fn small(&mut self) -> f64 {
+        (self.next() >> 11) as f64 / (1u64 << 52) as f64 - 1.0
+    }
+}
+
+fn norm([w, x, y, z]: [f64; 4]) -> f64 {
+    ((x * x + z * z) + (y * y + w * w)).sqrt()
+}
+
+fn normalized(q: [f64; 4]) -> [f64; 4] {
+    q.map(|x| x / norm(q))
+}
+
+/// A quaternion of a random direction, normalised twice.
+fn unit(g: &mut Random) -> [f64; 4] {
+    loop {
+        let q = std::array::from_fn(|_| g.small());
+        if (0.1..1.0).contains(&norm(q)) {
+            return normalized(normalized(q));
+        }
+    }
+}
+
+/// A unit quaternion times 1 + 1e-7 or 1 - 1e-7.
+fn off_unit(g: &mut Random) -> [f64; 4] {
+    let scale = if g.next() & 1 == 0 {
+        1.0 + 1e-7
+    } else {
+        1.0 - 1e-7
+    };
+    unit(g).map(|x| x * scale)
+}
+
+fn no_turn(_: &mut Random) -> [f64; 4] {
+    Element::IDENTITY.rotation
+}
+
+/// The steps of the longest chain, with quaternions of one kind.
+fn steps(quaternion: fn(&mut Random) -> [f64; 4]) -> Vec<Block> {
+    let mut g = Random(1);
+    let step = |_| {
+        let element = Element {
+            translation: std::array::from_fn(|_| g.small()),
+            rotation: quaternion(&mut g),
+            velocity: std::array::from_fn(|_| g.small()),
+            time: 0.01 * (1.0 + g.small()),
+        };
+        element.to_bytes()
+    };
+    (0..CHAIN_MOST).map(step).collect()
+}
+
+fn main() {
+    let classes = [
+        ("normalised twice", steps(unit)),
+        ("1e-7 off", steps(off_unit)),
+        ("no rotation", steps(no_turn)),
+    ];
+    let mut compared = 0;
+    for (name, steps) in &classes {
+        let [ours, straight, shared] = CANDIDATES.map(|entries| answers(&entries, steps));
+        assert!(
+            ours.iter().all(|(number, _)| *number == 0),
+            "{name}: refused"
+        );
+        assert!(ours == straight, "{name}: straight differs");
+        assert!(ours == shared, "{name}: shared differs");
+        compared += ours.len();
+    }
+    println!("{compared} answers of each are the same, bit for bit.\n");
+
+    println!(
+        "| quaternions | call | library, ns | straight, ns | shared, ns | library / straight | library / shared |"
+    );
+    println!("|---|---|---:|---:|---:|---:|---:|");
+    for (name, steps) in &classes {
+        for (call, round) in [
+            ("chain, per step", chain_round as Round),
+            ("compose", compose_round),
+            ("inverse", inverse_round),
+        ] {
+            let [ours, straight, shared] = times(round, steps);
+            println!(
+                "| {name} | {call} | {ours:.1} | {straight:.1} | {shared:.1} | {:.2} | {:.2} |",
+                ours / straight,
+                ours / shared
+            );
+        }
+    }
+}
