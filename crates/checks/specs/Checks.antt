@@ -8,6 +8,7 @@ use lib.Ieee.{Float, nan, binary64, ofBits, add, sub, mul, lt}
 use lib.Ieee.Scale.{finite}
 use Rattle.number.specs.Exact.{abs}
 use Rattle.number.specs.Root.{squareRoot}
+use Rattle.checks.specs.Refusals.{earlier}
 use Rattle.checks.specs.declared.Refusal.the-variants.{Length, NotFinite, NotUnit}
 use Rattle.checks.specs.declared.Check.{Check}
 use Rattle.checks.specs.declared.Check.the-variants.{Passed, Refused}
@@ -41,12 +42,24 @@ checkNorm n tolerance =
 unfoldable pub checkUnitQuaternion : List Float → Float → Check
 checkUnitQuaternion q tolerance = checkNorm (normOf q) tolerance
 
--- a block of len values, whose quaternion is the four from `at` on
+-- a block of len values
+unfoldable pub checkValues : List Float → ℕ → Check
+checkValues s len = cond (eqb (length s) len) (cond (allFinite s) Passed (Refused NotFinite)) (Refused (Length len (length s)))
+
+-- what follows a check that passed
+unfoldable pub next : Check → Check → Check
+next Passed c = c
+next (Refused r) c = Refused r
+
+-- the quaternion of a block of len values is the four from `at` on
 unfoldable pub checkParamBlock : List Float → ℕ → ℕ → Float → Check
-checkParamBlock s len at tolerance =
-    cond (eqb (length s) len)
-    (cond (allFinite s) (checkUnitQuaternion (take 4 (drop at s)) tolerance) (Refused NotFinite))
-    (Refused (Length len (length s)))
+checkParamBlock s len at tolerance = next (checkValues s len) (checkUnitQuaternion (take 4 (drop at s)) tolerance)
+
+-- of two blocks' checks, the refusal that is tried first
+unfoldable pub both : Check → Check → Check
+both Passed right = right
+both (Refused r) Passed = Refused r
+both (Refused r) (Refused s) = Refused (earlier r s)
 
 unfoldable pub validateSgal3Params : List Float → Check
 validateSgal3Params s = checkParamBlock s 11 3 tolerance

@@ -54,6 +54,19 @@ impl Refusal {
     }
 }
 
+// Of two blocks' checks, the refusal that is tried first.
+pub fn both(left: Check, right: Check) -> Check
+    ensures { λ r. ⌜ r ≡ Checks.both left right ⌝ }
+{
+    let Check::Refused(a) = left else {
+        return right;
+    };
+    let Check::Refused(b) = right else {
+        return left;
+    };
+    Check::Refused(a.earlier(b))
+}
+
 pub fn all_finite(s: &[f64]) -> bool
     ensures { λ r. ⌜ r ≡ Checks.allFinite (now (s .entry)) ⌝ }
 {
@@ -91,10 +104,9 @@ pub fn check_unit_quaternion(q: &[f64], tolerance: f64) -> Check
     )
 }
 
-// Length, all values, then the quaternion whose four values start at `at`.
-pub fn check_param_block(s: &[f64], len: usize, at: usize, tolerance: f64) -> Check
-    requires { ⌜ at + 4 ≤ len ⌝ }
-    ensures { λ r. ⌜ r ≡ Checks.checkParamBlock (now (s .entry)) len at tolerance ⌝ }
+// Length, then all values.
+pub fn check_values(s: &[f64], len: usize) -> Check
+    ensures { λ r. ⌜ r ≡ Checks.checkValues (now (s .entry)) len ⌝ }
 {
     let actual = s.len();
     if actual != len {
@@ -106,8 +118,21 @@ pub fn check_param_block(s: &[f64], len: usize, at: usize, tolerance: f64) -> Ch
     if !all_finite(s) {
         return Check::Refused(Refusal::NotFinite);
     }
-    let end = at + 4;
-    check_unit_quaternion(&s[at..end], tolerance)
+    Check::Passed
+}
+
+// Then the quaternion whose four values start at `at`.
+pub fn check_param_block(s: &[f64], len: usize, at: usize, tolerance: f64) -> Check
+    requires { ⌜ at + 4 ≤ len ⌝ }
+    ensures { λ r. ⌜ r ≡ Checks.checkParamBlock (now (s .entry)) len at tolerance ⌝ }
+{
+    match check_values(s, len) {
+        Check::Passed => {
+            let end = at + 4;
+            check_unit_quaternion(&s[at..end], tolerance)
+        }
+        Check::Refused(r) => Check::Refused(r),
+    }
 }
 
 // SGal3::validate_params: refuses 1 to 3.

@@ -1,5 +1,6 @@
 pub mod Written
 pub mod Rotation
+pub mod Series
 pub mod Group
 pub mod Adjoint
 pub mod AdjointProduct

@@ -4,6 +4,7 @@ pub mod Quaternion
 pub mod Matrix
 pub mod Rows
 pub mod Rotation
+pub mod Series
 pub mod Galilean
 pub mod Exact
 pub mod Rounded

@@ -61,3 +61,6 @@ refusal-sets l n end e = join3 l refused (decimal n) ending 0 8 end refl e
 pub refusal-length : (n : ℕ) → length (refusal n) ≡ 8 + length (decimal n) + 1
 unfolding refusal
 refusal-length n = length-append refused (decimal n ++ ending) ∙ omega (arith, length-append (decimal n) ending)
+
+pub refusal-short : (n : ℕ) → length (refusal n) ≤ 220
+refusal-short n = omega (arith, refusal-length n, decimal-short n)

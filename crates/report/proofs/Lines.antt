@@ -15,7 +15,7 @@ use Rattle.sgal3.specs.declared.Element.{Element}
 use Rattle.sgal3.specs.declared.Answer.{Answer}
 use Rattle.sgal3.specs.declared.Answer.the-variants.{Done, Refused}
 use Rattle.words.proofs.Stores.{sets-append, join3}
-use Rattle.report.proofs.Digits.{hex-length, decimal-short, refusal-length}
+use Rattle.report.proofs.Digits.{hex-length, refusal-short}
 use Rattle.report.specs.Text.{hex, place, ending, line, lines, text, Written}
 
 pub line-sets : (l : List ℕ) (i k : ℕ) (x : Float)
@@ -58,12 +58,12 @@ number-below Overflow = omega arith
 
 pub answer-length : (e : Element) → 220 ≡ length (text (Done e))
 unfolding text coeffs
-answer-length e = sym (lines-length 0 (coeffs e))
+answer-length e = sym (lines-length _ (coeffs e))
 
 text-short : (a : Answer) → length (text a) ≤ 220
 unfolding text
 text-short (Done e) = omega (arith, answer-length e)
-text-short (Refused r) = omega (arith, refusal-length (number r), decimal-short (number r))
+text-short (Refused r) = refusal-short _
 
 -- what was stored from 0 on is what the first places hold
 pub written : (l x : List ℕ) (a : Answer) (n : ℕ) → length l ≡ 220 → n ≡ length (text a) → x ≡ sets l 0 (text a) → Written n x (text a)

@@ -23,10 +23,11 @@ unfoldable pub hex : ℕ → ℕ → List ℕ
 hex zero n = []
 hex (suc k) n = hex k (n / 16) ++ (digit (n % 16) ∷ [])
 
--- a number below 100, right-justified in two columns, and a blank
+-- the first of two columns for a number below 100
 unfoldable pub tens : ℕ → ℕ
 tens k = cond (ltb k 10) (code " ") (digit (k / 10))
 
+-- the number right-justified in two columns, and a blank
 unfoldable pub place : ℕ → List ℕ
 place k = tens k ∷ digit (k % 10) ∷ code " " ∷ []
 

@@ -11,7 +11,7 @@ use lib.Ieee.{Float, lt, ofBits, sub, binary64}
 use lib.Ieee.Scale.{finite}
 use Rattle.number.specs.Exact.{abs}
 use Rattle.checks.specs.Refusals.{number, earlier, byNumber, earliest}
-use Rattle.checks.specs.Checks.{tolerance, allFinite, normOf, checkNorm, checkUnitQuaternion, checkParamBlock}
+use Rattle.checks.specs.Checks.{tolerance, allFinite, normOf, checkNorm, checkUnitQuaternion, checkValues, next, checkParamBlock}
 use Rattle.checks.specs.declared.Refusal.{Refusal}
 use Rattle.checks.specs.declared.Refusal.the-variants.{Length, NotFinite, NotUnit, Turn, Overflow}
 use Rattle.checks.specs.declared.Check.the-variants.{Passed, Refused as Check·Refused}
@@ -33,11 +33,11 @@ All [] = Unit {0}
 All (o ∷ os) = BeforeOverflow o × All os
 
 block : (s : List Float) (t : Float) → BeforeOverflow (checkElement s t)
-unfolding checkElement checkParamBlock checkUnitQuaternion checkNorm number
+unfolding checkElement checkParamBlock checkValues next checkUnitQuaternion checkNorm number
 block s t = go (eqb (length s) 11) (allFinite s) (finite (normOf (take 4 (drop 3 s)))) (lt t (abs (sub binary64 (normOf (take 4 (drop 3 s))) (ofBits binary64 0x3ff0_0000_0000_0000))))
   where
     go : (a b c d : Bool)
-        → BeforeOverflow (ofCheck (Elements.elementOf s) (cond a (cond b (cond c (cond d (Check·Refused (NotUnit (normOf (take 4 (drop 3 s))))) Passed) (Check·Refused NotFinite)) (Check·Refused NotFinite)) (Check·Refused (Length 11 (length s)))))
+        → BeforeOverflow (ofCheck (Elements.elementOf s) (next (cond a (cond b Passed (Check·Refused NotFinite)) (Check·Refused (Length 11 (length s)))) (cond c (cond d (Check·Refused (NotUnit (normOf (take 4 (drop 3 s))))) Passed) (Check·Refused NotFinite))))
     go true true true true = lit< tt
     go true true true false = tt
     go true true false d = lit< tt

@@ -1,10 +1,11 @@
 -- The paper's bench list, its proved lines, as one list of pairs: what the definitions of the contracts give, and what the paper says. `bench-list`
 -- (proofs/BenchList.antt) proves it. Values stand as bit patterns, a refusal as its number and its figures.
 use Prim.Native.Nat.{ℕ, _+_}
+use mathlib.Core.Bool.{cond}
 use mathlib.Core.List.{List, [], _∷_, _++_, map}
 use lib.Ieee.{Float, binary64, ofBits, toBits}
 use Rattle.checks.specs.Refusals.{Figures, none, lengths, norm, number, figures}
-use Rattle.checks.specs.Checks.{validateSgal3Params}
+use Rattle.checks.specs.Checks.{tolerance, validateSgal3Params}
 use Rattle.checks.specs.declared.Refusal.{Refusal}
 use Rattle.checks.specs.declared.Check.{Check}
 use Rattle.checks.specs.declared.Check.the-variants.{Passed, Refused as Check·Refused}
@@ -12,6 +13,14 @@ use Rattle.law.specs.Patterns.{zero, minusZero, half, minusHalf, one, minusOne,
 use Rattle.linear.specs.Quaternions.{rotate}
 use Rattle.linear.specs.declared.Vec3.{Vec3}
 use Rattle.linear.specs.declared.Quaternion.{Quaternion}
+use Rattle.so3_blocks.specs.Calls as Rotations
+use Rattle.so3_blocks.specs.declared.Answer.{Answer as RotationAnswer}
+use Rattle.so3_blocks.specs.declared.Answer.the-variants.{Done as RotationAnswer·Done, Refused as RotationAnswer·Refused}
+use Rattle.so3_blocks.specs.declared.TangentAnswer.{TangentAnswer}
+use Rattle.so3_blocks.specs.declared.TangentAnswer.the-variants.{Done as TangentAnswer·Done, Refused as TangentAnswer·Refused}
+use Rattle.so3_blocks.specs.declared.ValidAnswer.{ValidAnswer}
+use Rattle.so3_blocks.specs.declared.ValidAnswer.the-variants.{Done as ValidAnswer·Done, Refused as ValidAnswer·Refused}
+use Rattle.so3_blocks.specs.declared.MatrixAnswer.{MatrixAnswer}
 use Rattle.sgal3.specs.Elements as Elements
 use Rattle.sgal3.specs.Calls as Calls
 use Rattle.sgal3.specs.declared.Answer.{Answer}
@@ -42,6 +51,23 @@ check (Check·Refused r) = refusal r
 abbrev point : Vec3 → List ℕ
 point p = toBits binary64 (p .x) ∷ toBits binary64 (p .y) ∷ toBits binary64 (p .z) ∷ []
 
+-- of calls on rotations and tangents
+abbrev rotation : RotationAnswer → List ℕ
+rotation (RotationAnswer·Done a) = map (toBits binary64) (a .params .w ∷ a .params .x ∷ a .params .y ∷ a .params .z ∷ [])
+rotation (RotationAnswer·Refused r) = refusal r
+
+abbrev tangent : TangentAnswer → List ℕ
+tangent (TangentAnswer·Done t) = point (t .theta)
+tangent (TangentAnswer·Refused r) = refusal r
+
+-- 1 for yes
+abbrev valid : ValidAnswer → List ℕ
+valid (ValidAnswer·Done b) = cond b 1 0 ∷ []
+valid (ValidAnswer·Refused r) = refusal r
+
+abbrev matrix : MatrixAnswer → List ℕ
+matrix m = check (m .outcome) ++ (point (m .matrix .row0) ++ (point (m .matrix .row1) ++ point (m .matrix .row2)))
+
 abbrev nan : ℕ
 nan = 0x7ff8_0000_0000_0000
 
@@ -61,6 +87,13 @@ block w s = floats (zero ∷ zero ∷ zero ∷ w ∷ zero ∷ zero ∷ zero ∷ 
 
 abbrev quaternion : ℕ → ℕ → ℕ → ℕ → Quaternion
 quaternion w x y z = record { w = ofBits binary64 w; x = ofBits binary64 x; y = ofBits binary64 y; z = ofBits binary64 z }
+
+abbrev along-x : ℕ → List Float
+along-x x = floats (x ∷ zero ∷ zero ∷ [])
+
+-- (w, 2 ^ -17, 0, 0)
+abbrev near : ℕ → List Float
+near w = floats (w ∷ 0x3ee0_0000_0000_0000 ∷ zero ∷ zero ∷ [])
 
 abbrev p123 : Vec3
 p123 = record { x = ofBits binary64 one; y = ofBits binary64 two; z = ofBits binary64 three }
@@ -90,4 +123,19 @@ benchList =
     -- the empty chain is the identity; the chain of A and B is A then B
     ∷ says (answer (Calls.chain [])) (zero ∷ zero ∷ zero ∷ one ∷ zero ∷ zero ∷ zero ∷ zero ∷ zero ∷ zero ∷ zero ∷ [])
     ∷ says (answer (Calls.chain (A ++ B))) (ten ∷ three ∷ four ∷ one ∷ zero ∷ zero ∷ zero ∷ four ∷ two ∷ zero ∷ twoAndAHalf ∷ [])
+    -- exp with theta (2 ^ -17, 0, 0): w = 1 - 2 ^ -37, x = 2 ^ -18 * (1 - 2 ^ -37); theta (2 ^ -16, 0, 0): 4
+    ∷ says (rotation (Rotations.exp (along-x 0x3ee0_0000_0000_0000))) (0x3fef_ffff_ffff_0000 ∷ 0x3ecf_ffff_ffff_0000 ∷ zero ∷ zero ∷ [])
+    ∷ says (rotation (Rotations.exp (along-x 0x3ef0_0000_0000_0000))) (4 ∷ [])
+    -- log tests the half angle: (1, 2 ^ -17, 0, 0) is answered, and with w below zero by -2; its Jacobian tests the whole angle as well: 4, all +0
+    ∷ says (tangent (Rotations.log (near one))) (0x3eef_ffff_fffc_0000 ∷ zero ∷ zero ∷ [])
+    ∷ says (tangent (Rotations.log (near minusOne))) (0xbeef_ffff_fffc_0000 ∷ minusZero ∷ minusZero ∷ [])
+    ∷ says (matrix (Rotations.logJacobian (near one))) (4 ∷ zero ∷ zero ∷ zero ∷ zero ∷ zero ∷ zero ∷ zero ∷ zero ∷ zero ∷ [])
+    -- the left Jacobian, and the right one, its transpose
+    ∷ says (matrix (Rotations.leftJacobian (along-x 0x3ee0_0000_0000_0000)))
+    (0 ∷ one ∷ zero ∷ zero ∷ zero ∷ one ∷ 0xbed0_0000_0000_0000 ∷ zero ∷ 0x3ed0_0000_0000_0000 ∷ one ∷ [])
+    ∷ says (matrix (Rotations.rightJacobian (along-x 0x3ee0_0000_0000_0000)))
+    (0 ∷ one ∷ zero ∷ zero ∷ zero ∷ one ∷ 0x3ed0_0000_0000_0000 ∷ zero ∷ 0xbed0_0000_0000_0000 ∷ one ∷ [])
+    -- is_valid of (2, 0, 0, 0) with 1e-6, and with an infinite tolerance: no
+    ∷ says (valid (Rotations.isValid (floats (two ∷ zero ∷ zero ∷ zero ∷ [])) tolerance)) (0 ∷ [])
+    ∷ says (valid (Rotations.isValid (floats (two ∷ zero ∷ zero ∷ zero ∷ [])) (ofBits binary64 0x7ff0_0000_0000_0000))) (0 ∷ [])
     ∷ []

@@ -108,6 +108,21 @@ fn at_the_tolerance() -> f64 {
     w
 }
 
+/// A quaternion at the edge of the tolerance: the check, which adds the squares from the left, accepts it or refuses it as
+/// asked, and in the order of the normalisation it would do the other.
+fn at_the_edge(random: &mut Random, accepted: bool) -> Block {
+    loop {
+        let [w, x, y, z] = [(); 4].map(|_| random.unit());
+        let n = (w * w + x * x + y * y + z * z).sqrt() / (1.0 + 1e-6);
+        let [w, x, y, z] = [w / n, x / n, y / n, z / n];
+        let from_the_left = (w * w + x * x + y * y + z * z).sqrt() - 1.0 <= 1e-6;
+        let in_pairs = ((x * x + z * z) + (y * y + w * w)).sqrt() - 1.0 <= 1e-6;
+        if from_the_left == accepted && in_pairs != accepted {
+            return block([1.0, 2.0, 3.0], [w, x, y, z], [4.0, 0.0, 0.0], 0.5);
+        }
+    }
+}
+
 pub fn bench() -> Vec<u8> {
     bytes(&[a(), b()])
 }
@@ -234,6 +249,14 @@ pub fn all() -> Vec<Case> {
     put(
         "norm_past_the_tolerance",
         bytes(&[with_w(at_the_tolerance().next_up()), b()]),
+    );
+    put(
+        "norm_from_the_left_accepted",
+        bytes(&[at_the_edge(&mut Random(5), true), b()]),
+    );
+    put(
+        "norm_from_the_left_refused",
+        bytes(&[at_the_edge(&mut Random(6), false), b()]),
     );
     put("norm_2_to_511", bytes(&[with_w(two_to(511))]));
     put("norm_0", bytes(&[with_w(0.0)]));

@@ -4,9 +4,6 @@ use borrow.Author.Needs.{needs}
 use Rattle.handset.specs.Blocks as Blocks
 use Rattle.handset.proofs.chain.Statement.{statement}
 use Rattle.handset.proofs.chain.Tie as tie
-use Rattle.handset.proofs.chain.Reads as reads
-use Rattle.handset.proofs.chain.Lts as lts
-use Rattle.handset.proofs.chain_blocks.Reads as chain-blocks-reads
 
 -- src/lib.rt:81:9
 returns : tie.Need-returns

@@ -1,0 +1,37 @@
+-- `manifold_blocks::so3_between_jacobian_other` meets its contract. Assumes nothing.
+use borrow.Author.Needs.{needs}
+use Rattle.manifold_blocks.specs.Calls as Calls
+use Rattle.manifold_blocks.proofs.so3_between_jacobian_other.Statement.{statement}
+use Rattle.manifold_blocks.proofs.so3_between_jacobian_other.Tie as tie
+
+returns : tie.Need-returns
+unfolding Calls.betweenJacobianOther
+returns c =
+    rw (
+      ← c .before .before .before .before .check-elements .ensures,
+      c .before .before .enum-told .given .1,
+      ← c .before .identity .ensures,
+      ← c .matrix-answer .ensures,
+    )
+
+returns-2 : tie.Need-returns-2
+unfolding Calls.betweenJacobianOther
+returns-2 c =
+    rw (
+      ← c .before .before .before .before .check-elements .ensures,
+      c .before .before .r .given .1,
+      ← c .refused-matrix .ensures,
+    )
+
+pub so3-between-jacobian-other-spec : {M : Type 1} → statement M
+so3-between-jacobian-other-spec =
+    tie.close
+    (tie.spec
+    (λ c κs. search needs)
+    (λ c. search needs)
+    (λ c κs. search needs)
+    (λ c κs. search needs)
+    (λ c. search needs)
+    (λ c κs. search needs)
+    returns
+    returns-2)
