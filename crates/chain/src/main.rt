@@ -1,6 +1,20 @@
 // The chain of the blocks on standard input.
+use chain_run::Reading;
 use libc::STDIN_FILENO;
+use libc::STDOUT_FILENO;
 
 fn main() {
-    chain_run::run(STDIN_FILENO, b"standard input");
+    let mut space = [0u8; 65473];
+    let mut page = [0u8; 220];
+    let Reading::Report { read: _, put } = chain_run::read_report(
+        STDIN_FILENO,
+        &mut space,
+        &mut page,
+    ) else {
+        os::fail(b"standard input");
+        return;
+    };
+    if !io::write_all(STDOUT_FILENO, &page[..put]) {
+        os::fail(b"standard output");
+    }
 }

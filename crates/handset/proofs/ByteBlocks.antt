@@ -8,8 +8,8 @@ use lib.Seq.{take-at, drop-at}
 use lib.Ieee.{Float}
 use Rattle.checks.specs.Checks.{tolerance}
 use Rattle.words.specs.Word.{valueAt}
-use Rattle.sgal3.specs.Calls.{checkElement, composeAnswers, chainFrom}
-use Rattle.sgal3.specs.declared.Answer.{Answer}
+use Rattle.sgal3_composition.specs.Calls.{checkElement, composeAnswers, chainFrom}
+use Rattle.sgal3_composition.specs.declared.Answer.{Answer}
 use Rattle.handset.specs.Blocks.{valuesAt}
 
 pub eleven : (s : List ℕ) (i : ℕ)

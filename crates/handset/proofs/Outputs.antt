@@ -9,9 +9,9 @@ use Rattle.checks.specs.Refusals as Refusals
 use Rattle.checks.specs.declared.Refusal.{Refusal}
 use Rattle.checks.specs.declared.Refusal.the-variants.{Length, NotFinite, NotUnit, Turn, Overflow}
 use Rattle.checks.proofs.Order.{Picked, left, right, picked}
-use Rattle.sgal3.specs.Calls as Calls
-use Rattle.sgal3.specs.declared.Answer.{Answer}
-use Rattle.sgal3.specs.declared.Answer.the-variants.{Done, Refused}
+use Rattle.sgal3_composition.specs.Calls as Calls
+use Rattle.sgal3_composition.specs.declared.Answer.{Answer}
+use Rattle.sgal3_composition.specs.declared.Answer.the-variants.{Done, Refused}
 use Rattle.handset.specs.Entries.{number, written, Answered, into}
 
 pub right-length : (out : List ℕ) (a : Answer) → length out ≡ 88 → into out a ≡ a

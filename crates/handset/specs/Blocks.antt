@@ -10,10 +10,10 @@ use Rattle.checks.specs.declared.Refusal.the-variants.{Length}
 use Rattle.linear.specs.declared.Vec3.{Vec3}
 use Rattle.linear.specs.declared.Quaternion.{Quaternion}
 use Rattle.words.specs.Word.{valueAt, bytesOf}
-use Rattle.sgal3.specs.Calls as Calls
+use Rattle.sgal3_composition.specs.Calls as Calls
 use Rattle.sgal3.specs.declared.Element.{Element}
-use Rattle.sgal3.specs.declared.Answer.{Answer}
-use Rattle.sgal3.specs.declared.Answer.the-variants.{Refused}
+use Rattle.sgal3_composition.specs.declared.Answer.{Answer}
+use Rattle.sgal3_composition.specs.declared.Answer.the-variants.{Refused}
 
 -- n values, of eight bytes each, from the place at on
 unfoldable pub valuesAt : ℕ → List ℕ → ℕ → List Float

@@ -7,9 +7,9 @@ use lib.Dec.{eqb}
 use lib.ListN.{length}
 use Rattle.checks.specs.Refusals as Refusals
 use Rattle.checks.specs.declared.Refusal.the-variants.{Length}
-use Rattle.sgal3.specs.Calls as Calls
-use Rattle.sgal3.specs.declared.Answer.{Answer}
-use Rattle.sgal3.specs.declared.Answer.the-variants.{Done, Refused}
+use Rattle.sgal3_composition.specs.Calls as Calls
+use Rattle.sgal3_composition.specs.declared.Answer.{Answer}
+use Rattle.sgal3_composition.specs.declared.Answer.the-variants.{Done, Refused}
 use Rattle.handset.specs.Blocks as Blocks
 
 -- 0 for an answer, or the refusal's number

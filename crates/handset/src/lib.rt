@@ -3,14 +3,14 @@
 use checks::Refusal;
 use linear::Quaternion;
 use linear::Vec3;
-use sgal3::Answer;
 use sgal3::Element;
+use sgal3_composition::Answer;
 ghost use mathlib.Core.Path.{_≡_};
 ghost use Prim.Native.Nat.{_+_, _/_, _≤_};
 ghost use lib.ListN.{length};
 ghost use lib.Seq.{sets};
 ghost use Rattle.checks.specs.Checks.{tolerance};
-ghost use Rattle.sgal3.specs.Calls.{checkElement};
+ghost use Rattle.sgal3_composition.specs.Calls.{checkElement};
 ghost use Rattle.handset.specs.Blocks as Blocks;
 ghost use Rattle.handset.specs.Entries as Entries;
 
@@ -40,7 +40,7 @@ fn check_at(s: &[u8], at: usize) -> Answer
     ensures { λ r. ⌜ r ≡ checkElement (Blocks.valuesAt 11 (now (s .entry)) at) tolerance ⌝ }
 {
     let block = values(s, at);
-    sgal3::check_element(&block, checks::tolerance())
+    sgal3_composition::check_element(&block, checks::tolerance())
 }
 
 // The element of a byte block, or why it is refused.
@@ -65,7 +65,7 @@ fn chain_blocks(s: &[u8]) -> Answer
     let mut at = 0;
     let mut held = Answer::Done(Element::identity());
     while 0 < left {
-        held = sgal3::compose_answers(held, check_at(s, at));
+        held = sgal3_composition::compose_answers(held, check_at(s, at));
         at += 88;
         left -= 1;
     }
@@ -143,7 +143,7 @@ pub extern "C" fn sgal3_compose(left: &[u8], right: &[u8], out: &mut [u8]) -> u3
         return 1;
     }
     finish(
-        sgal3::compose_answers(check_block(left), check_block(right)),
+        sgal3_composition::compose_answers(check_block(left), check_block(right)),
         out,
     )
 }
@@ -155,7 +155,7 @@ pub extern "C" fn sgal3_inverse(block: &[u8], out: &mut [u8]) -> u32
     if out.len() != 88 {
         return 1;
     }
-    finish(sgal3::inverse_answer(check_block(block)), out)
+    finish(sgal3_composition::inverse_answer(check_block(block)), out)
 }
 
 #[no_mangle]

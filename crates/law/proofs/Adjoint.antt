@@ -29,7 +29,7 @@ module _ {A : Type 0} (𝓔 : Exact A) where
   adjointAt-conjugation : (a : Element A) (ξ : Tangent A) → Unit 𝓔 a
       → Rows.mul o (hat5 o (applyTangent o (adjointAt o (a .rotation) a) ξ)) (matrixAt o (a .rotation) a)
       ≡ Rows.mul o (matrixAt o (a .rotation) a) (hat5 o ξ)
-  unfolding hat5 applyTangent adjointAt matrixAt Galilean.row5 Galilean.row10 Galilean.coeffs Galilean.tangent Rows.mul Rows.apply Rows.dot Rows.transpose Quaternion.rotationMatrix Quaternion.normSquared Matrix.hat Matrix.mul Matrix.rowBy Matrix.scale Matrix.sub Vector.scale Vector.sub Vector.zero agrees eval
+  unfolding hat5 applyTangent Galilean.byBlocks adjointAt matrixAt Galilean.row5 Galilean.row10 Galilean.coeffs Galilean.tangent Rows.mul Rows.apply Rows.dot Rows.transpose Quaternion.rotationMatrix Quaternion.normSquared Matrix.hat Matrix.mul Matrix.rowBy Matrix.scale Matrix.sub Vector.scale Vector.sub Vector.zero agrees eval
   adjointAt-conjugation a ξ h =
       let m = written in
       let q = quaternion 3 in
@@ -51,7 +51,7 @@ module _ {A : Type 0} (𝓔 : Exact A) where
   -- hat5 [ξ, η] = hat5 ξ hat5 η - hat5 η hat5 ξ
   pub bracket-commutator : (ξ η : Tangent A)
       → hat5 o (lieBracket o ξ η) ≡ Rows.sub o (Rows.mul o (hat5 o ξ) (hat5 o η)) (Rows.mul o (hat5 o η) (hat5 o ξ))
-  unfolding lieBracket hat5 smallAdj applyTangent Galilean.row5 Galilean.row10 Galilean.coeffs Galilean.tangent Rows.sub Rows.mul Rows.apply Rows.dot Rows.transpose Matrix.hat Matrix.scale Matrix.identity Vector.scale Vector.zero agrees eval
+  unfolding lieBracket hat5 Galilean.byBlocks smallAdj applyTangent Galilean.row5 Galilean.row10 Galilean.coeffs Galilean.tangent Rows.sub Rows.mul Rows.apply Rows.dot Rows.transpose Matrix.hat Matrix.scale Matrix.identity Vector.scale Vector.zero agrees eval
   bracket-commutator ξ η =
       let m = written in
       solveRows 𝓡 (ofTangent ξ (ofTangent η []))

@@ -8,7 +8,7 @@ use Rattle.law.specs.Matrix as Matrix
 use Rattle.law.specs.Matrix.{Matrix}
 use Rattle.law.specs.Quaternion as Quaternion
 use Rattle.law.specs.Rows as Rows
-use Rattle.law.specs.Galilean.{Element, compose, composeAt, row10, adjoint, adjointAt}
+use Rattle.law.specs.Galilean.{Element, compose, composeAt, row10, byBlocks, adjoint, adjointAt}
 use Rattle.law.specs.Exact.{Exact, exact}
 use Rattle.ring.specs.Ring.{Ring}
 use Rattle.ring.proofs.Solver.{Expr, var, zer, eval}
@@ -27,7 +27,7 @@ module _ {A : Type 0} (𝓔 : Exact A) where
   adjointAt-compose : (a b : Element A) → Unit 𝓔 a
       → adjointAt o (Quaternion.mul o (a .rotation) (b .rotation)) (composeAt o (a .rotation) (b .rotation) a b)
       ≡ Rows.mul o (adjointAt o (a .rotation) a) (adjointAt o (b .rotation) b)
-  unfolding composeAt adjointAt row10 Rows.mul Rows.dot Rows.transpose Quaternion.rotate Quaternion.vector Quaternion.rotationMatrix Quaternion.mul Quaternion.normSquared Matrix.hat Matrix.mul Matrix.rowBy Matrix.scale Matrix.sub Vector.zero Vector.add Vector.sub Vector.neg Vector.scale Vector.cross agrees eval
+  unfolding composeAt byBlocks adjointAt row10 Rows.mul Rows.dot Rows.transpose Quaternion.rotate Quaternion.vector Quaternion.rotationMatrix Quaternion.mul Quaternion.normSquared Matrix.hat Matrix.mul Matrix.rowBy Matrix.scale Matrix.sub Vector.zero Vector.add Vector.sub Vector.neg Vector.scale Vector.cross agrees eval
   adjointAt-compose a b h =
       let m = written in
       let q = quaternion 3 in

@@ -33,7 +33,7 @@ corner : List (List ℤ) → ℕ
 corner m = natAbs (getD (getD m 0 []) 5 (pos 0))
 
 pub hat-not-bracket : hat o (lieBracket o ξ η) ≡ Rows.sub o (Rows.mul o (hat o ξ) (hat o η)) (Rows.mul o (hat o η) (hat o ξ)) → ⊥
-unfolding corner hat lieBracket Galilean.smallAdj Galilean.applyTangent Galilean.row10 Galilean.coeffs Galilean.tangent Rows.sub Rows.mul Rows.apply Rows.dot Rows.transpose Matrix.hat Matrix.scale Matrix.identity Vector.scale Vector.zero one
+unfolding corner hat Galilean.lieAlgebra lieBracket Galilean.byBlocks Galilean.smallAdj Galilean.applyTangent Galilean.row10 Galilean.coeffs Galilean.tangent Rows.sub Rows.mul Rows.apply Rows.dot Rows.transpose Matrix.hat Matrix.scale Matrix.identity Vector.scale Vector.zero one
 hat-not-bracket h = apart (ap corner h)
   where
     apart : _≡_ {A = ℕ} 0 1 → ⊥

@@ -1,6 +1,7 @@
 pub mod Written
 pub mod Rotation
 pub mod Series
+pub mod Exponential
 pub mod Group
 pub mod Adjoint
 pub mod AdjointProduct

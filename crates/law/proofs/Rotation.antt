@@ -31,7 +31,7 @@ module _ {A : Type 0} (𝓔 : Exact A) where
       let m = written in
       solveVector 𝓡 (ofVector a (ofVector b [])) (Matrix.apply m (Matrix.hat m (vector 0)) (vector 3)) (Vector.cross m (vector 0) (vector 3)) tt
 
-  apply-mul : (m n : Matrix A) (p : Vector A) → Matrix.apply o (Matrix.mul o m n) p ≡ Matrix.apply o m (Matrix.apply o n p)
+  pub apply-mul : (m n : Matrix A) (p : Vector A) → Matrix.apply o (Matrix.mul o m n) p ≡ Matrix.apply o m (Matrix.apply o n p)
   unfolding Matrix.apply Matrix.mul Matrix.rowBy Vector.dot agree eval
   apply-mul m n p =
       let w = written in

@@ -15,7 +15,7 @@ module _ {A : Type 0} (𝓔 : Exact A) where
   o = exact 𝓔
 
   -- (I + k·hat θ) (I - k·hat θ) = I - k²·(hat θ)²
-  plusHat-minusHat : (k : A) (θ : Vector A)
+  pub plusHat-minusHat : (k : A) (θ : Vector A)
       → Matrix.mul o (Series.plusHat o k θ) (Series.minusHat o k θ)
       ≡ Matrix.sub o (Matrix.identity o) (Matrix.scale o (Matrix.mul o (Matrix.hat o θ) (Matrix.hat o θ)) (o .mul k k))
   unfolding Series.plusHat Series.minusHat Matrix.mul Matrix.rowBy Matrix.add Matrix.sub Matrix.scale Matrix.identity Matrix.hat Vector.add Vector.sub Vector.scale agree eval
@@ -23,6 +23,18 @@ module _ {A : Type 0} (𝓔 : Exact A) where
       let m = written in
       solveMatrix (𝓔 .ring) (ofVector θ (k ∷ []))
       (Matrix.mul m (Series.plusHat m (var 3) (vector 0)) (Series.minusHat m (var 3) (vector 0)))
+      (Matrix.sub m (Matrix.identity m) (Matrix.scale m (Matrix.mul m (Matrix.hat m (vector 0)) (Matrix.hat m (vector 0))) (m .mul (var 3) (var 3))))
+      tt
+
+  -- and in the other order
+  pub minusHat-plusHat : (k : A) (θ : Vector A)
+      → Matrix.mul o (Series.minusHat o k θ) (Series.plusHat o k θ)
+      ≡ Matrix.sub o (Matrix.identity o) (Matrix.scale o (Matrix.mul o (Matrix.hat o θ) (Matrix.hat o θ)) (o .mul k k))
+  unfolding Series.plusHat Series.minusHat Matrix.mul Matrix.rowBy Matrix.add Matrix.sub Matrix.scale Matrix.identity Matrix.hat Vector.add Vector.sub Vector.scale agree eval
+  minusHat-plusHat k θ =
+      let m = written in
+      solveMatrix (𝓔 .ring) (ofVector θ (k ∷ []))
+      (Matrix.mul m (Series.minusHat m (var 3) (vector 0)) (Series.plusHat m (var 3) (vector 0)))
       (Matrix.sub m (Matrix.identity m) (Matrix.scale m (Matrix.mul m (Matrix.hat m (vector 0)) (Matrix.hat m (vector 0))) (m .mul (var 3) (var 3))))
       tt
 

@@ -26,7 +26,7 @@ pub record Tangent (A : Type 0) : Type 0 where
 
 module _ {A : Type 0} (o : Arithmetic A) where
   infixl 60 _⊕_
-  open Arithmetic o using (zero as 𝟘, one as 𝟙, add as _⊕_, neg as ⊝)
+  open Arithmetic o using (zero as 𝟘, one as 𝟙, two as 𝟚, add as _⊕_, neg as ⊝)
 
   infixl 60 _+_ _-_
   infixl 70 _·_
@@ -84,6 +84,13 @@ module _ {A : Type 0} (o : Arithmetic A) where
   unfoldable pub act : Element A → Vector A → Vector A
   act a p = actAt (Rotation.unitQuaternion o (rotationImpl a)) a p
 
+  -- divides by the norm three times: once in rotation_impl, twice in SO(3)'s own
+  unfoldable pub normalize : Element A → Element A
+  normalize a = record { translation = a .translation; rotation = Rotation.normalize o (rotationImpl a); velocity = a .velocity; time = a .time }
+
+  unfoldable pub rotationMatrix : Element A → Matrix A
+  rotationMatrix a = Rotation.rotationMatrix o (rotationImpl a)
+
   unfoldable pub row5 : Vector A → A → A → List A
   row5 r v t = r .x ∷ r .y ∷ r .z ∷ v ∷ t ∷ []
 
@@ -105,18 +112,20 @@ module _ {A : Type 0} (o : Arithmetic A) where
   abbrev row6 : Vector A → A → A → A → List A
   row6 h a b c = h .x ∷ h .y ∷ h .z ∷ a ∷ b ∷ c ∷ []
 
-  -- hat theta top left, rho in column 3, nu in column 4, s at (3,5)
-  unfoldable pub hat : Tangent A → List (List A)
-  hat ξ =
-      let h = Matrix.hat o (ξ .theta) in
+  -- the layout of the algebra: a matrix top left, rho in column 3, nu in column 4, s at (3,5)
+  unfoldable pub lieAlgebra : Matrix A → Vector A → Vector A → A → List (List A)
+  lieAlgebra h ρ ν s =
       let n = Vector.zero o in
-      row6 (h .row0) (ξ .rho .x) (ξ .nu .x) 𝟘
-      ∷ row6 (h .row1) (ξ .rho .y) (ξ .nu .y) 𝟘
-      ∷ row6 (h .row2) (ξ .rho .z) (ξ .nu .z) 𝟘
-      ∷ row6 n 𝟘 𝟘 (ξ .s)
+      row6 (h .row0) (ρ .x) (ν .x) 𝟘
+      ∷ row6 (h .row1) (ρ .y) (ν .y) 𝟘
+      ∷ row6 (h .row2) (ρ .z) (ν .z) 𝟘
+      ∷ row6 n 𝟘 𝟘 s
       ∷ row6 n 𝟘 𝟘 𝟘
       ∷ row6 n 𝟘 𝟘 𝟘
       ∷ []
+
+  unfoldable pub hat : Tangent A → List (List A)
+  hat ξ = lieAlgebra (Matrix.hat o (ξ .theta)) (ξ .rho) (ξ .nu) (ξ .s)
 
   -- the papers' hat, in the algebra of the 5 by 5 matrices: [hat theta, nu, rho; 0 0 s; 0 0 0]
   unfoldable pub hat5 : Tangent A → List (List A)
@@ -133,6 +142,22 @@ module _ {A : Type 0} (o : Arithmetic A) where
   unfoldable pub row10 : Vector A → Vector A → Vector A → A → List A
   row10 a b c k = a .x ∷ a .y ∷ a .z ∷ b .x ∷ b .y ∷ b .z ∷ c .x ∷ c .y ∷ c .z ∷ k ∷ []
 
+  -- the layout of a 10 by 10 matrix: [r, b, c, u]; [0, r, d, 0]; [0, 0, r, 0]; the last row 0 but for a final k
+  unfoldable pub byBlocks : Matrix A → Matrix A → Matrix A → Matrix A → Vector A → A → List (List A)
+  byBlocks r b c d u k =
+      let n = Vector.zero o in
+      row10 (r .row0) (b .row0) (c .row0) (u .x)
+      ∷ row10 (r .row1) (b .row1) (c .row1) (u .y)
+      ∷ row10 (r .row2) (b .row2) (c .row2) (u .z)
+      ∷ row10 n (r .row0) (d .row0) 𝟘
+      ∷ row10 n (r .row1) (d .row1) 𝟘
+      ∷ row10 n (r .row2) (d .row2) 𝟘
+      ∷ row10 n n (r .row0) 𝟘
+      ∷ row10 n n (r .row1) 𝟘
+      ∷ row10 n n (r .row2) 𝟘
+      ∷ row10 n n n k
+      ∷ []
+
   -- [R, -s R, (hat t - s hat v) R, v]; [0, R, hat v R, 0]; [0, 0, R, 0]; the last row 0 but for a final 1
   unfoldable pub adjointAt : Quaternion A → Element A → List (List A)
   adjointAt q a =
@@ -140,19 +165,7 @@ module _ {A : Type 0} (o : Arithmetic A) where
       let v = Matrix.hat o (a .velocity) in
       let b = Matrix.scale o r (⊝ (a .time)) in
       let c = Matrix.mul o (Matrix.sub o (Matrix.hat o (a .translation)) (Matrix.scale o v (a .time))) r in
-      let d = Matrix.mul o v r in
-      let n = Vector.zero o in
-      row10 (r .row0) (b .row0) (c .row0) (a .velocity .x)
-      ∷ row10 (r .row1) (b .row1) (c .row1) (a .velocity .y)
-      ∷ row10 (r .row2) (b .row2) (c .row2) (a .velocity .z)
-      ∷ row10 n (r .row0) (d .row0) 𝟘
-      ∷ row10 n (r .row1) (d .row1) 𝟘
-      ∷ row10 n (r .row2) (d .row2) 𝟘
-      ∷ row10 n n (r .row0) 𝟘
-      ∷ row10 n n (r .row1) 𝟘
-      ∷ row10 n n (r .row2) 𝟘
-      ∷ row10 n n n 𝟙
-      ∷ []
+      byBlocks r b c (Matrix.mul o v r) (a .velocity) 𝟙
 
   unfoldable pub adjoint : Element A → List (List A)
   adjoint a = adjointAt (Rotation.unitQuaternion o (rotationImpl a)) a
@@ -160,22 +173,8 @@ module _ {A : Type 0} (o : Arithmetic A) where
   -- [hat theta, -s I, hat rho, nu]; [0, hat theta, hat nu, 0]; [0, 0, hat theta, 0]; the last row 0. -s I is nine products
   unfoldable pub smallAdj : Tangent A → List (List A)
   smallAdj ξ =
-      let t = Matrix.hat o (ξ .theta) in
-      let u = Matrix.hat o (ξ .nu) in
-      let r = Matrix.hat o (ξ .rho) in
       let b = Matrix.scale o (Matrix.identity o) (⊝ (ξ .s)) in
-      let n = Vector.zero o in
-      row10 (t .row0) (b .row0) (r .row0) (ξ .nu .x)
-      ∷ row10 (t .row1) (b .row1) (r .row1) (ξ .nu .y)
-      ∷ row10 (t .row2) (b .row2) (r .row2) (ξ .nu .z)
-      ∷ row10 n (t .row0) (u .row0) 𝟘
-      ∷ row10 n (t .row1) (u .row1) 𝟘
-      ∷ row10 n (t .row2) (u .row2) 𝟘
-      ∷ row10 n n (t .row0) 𝟘
-      ∷ row10 n n (t .row1) 𝟘
-      ∷ row10 n n (t .row2) 𝟘
-      ∷ row10 n n n 𝟘
-      ∷ []
+      byBlocks (Matrix.hat o (ξ .theta)) b (Matrix.hat o (ξ .rho)) (Matrix.hat o (ξ .nu)) (ξ .nu) 𝟘
 
   -- a tangent as ten values, and back
   unfoldable pub coeffs : Tangent A → List A
@@ -198,3 +197,33 @@ module _ {A : Type 0} (o : Arithmetic A) where
   unfoldable pub lieBracket : Tangent A → Tangent A → Tangent A
   unfolding applyTangent
   lieBracket ξ η = applyTangent (smallAdj ξ) η
+
+  -- ---- Jacobians
+  -- the negated adjoint: its empty places hold -0
+  unfoldable pub inverseJacobian : Element A → List (List A)
+  inverseJacobian a = Rows.neg o (adjoint a)
+
+  -- of compose a b with respect to a
+  unfoldable pub composeJacobianSelf : Element A → Element A → List (List A)
+  composeJacobianSelf a b = adjoint (inverse b)
+
+  -- of compose a b with respect to b: the 10 by 10 identity
+  unfoldable pub jacobianIdentity : List (List A)
+  jacobianIdentity =
+      let n = Vector.zero o in
+      let z : Matrix A = record { row0 = n; row1 = n; row2 = n } in
+      byBlocks (Matrix.identity o) z z z n 𝟙
+
+  -- of act a p with respect to a, three rows: [R, s R, (-R) hat p, 2 v], R negated before the product; with respect to p it is R
+  unfoldable pub actJacobianSelfAt : Matrix A → Element A → Vector A → List (List A)
+  actJacobianSelfAt r a p =
+      let b = Matrix.scale o r (a .time) in
+      let c = Matrix.mul o (Matrix.neg o r) (Matrix.hat o p) in
+      let d = a .velocity · 𝟚 in
+      row10 (r .row0) (b .row0) (c .row0) (d .x)
+      ∷ row10 (r .row1) (b .row1) (c .row1) (d .y)
+      ∷ row10 (r .row2) (b .row2) (c .row2) (d .z)
+      ∷ []
+
+  unfoldable pub actJacobianSelf : Element A → Vector A → List (List A)
+  actJacobianSelf a p = actJacobianSelfAt (rotationMatrix a) a p

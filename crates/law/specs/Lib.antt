@@ -6,6 +6,7 @@ pub mod Rows
 pub mod Rotation
 pub mod Series
 pub mod Galilean
+pub mod GalileanSeries
 pub mod Exact
 pub mod Rounded
 pub mod Patterns

@@ -1,8 +1,8 @@
 -- Worked values of the formulas at the rounded arithmetic, as bit patterns: inputs at which another order of operations gives other bits.
--- `orders` (proofs/Orders.antt) proves the list.
+-- `orders` and `series-orders` (proofs/Orders.antt) prove the two lists.
 use Prim.Native.Nat.{ℕ}
 use mathlib.Core.List.{List, [], _∷_, map, _++_}
-use lib.ListN.{take}
+use lib.ListN.{take, getD}
 use lib.Ieee.{Float, ofBits, toBits, binary64}
 use Rattle.law.specs.Vector as Vector
 use Rattle.law.specs.Vector.{Vector}
@@ -14,7 +14,8 @@ use Rattle.law.specs.Rows as Rows
 use Rattle.law.specs.Rotation as Rotation
 use Rattle.law.specs.Galilean as Galilean
 use Rattle.law.specs.Galilean.{Element, Tangent}
-use Rattle.law.specs.Rounded.{rounded}
+use Rattle.law.specs.GalileanSeries as GalileanSeries
+use Rattle.law.specs.Rounded.{rounded, divisors}
 use Rattle.law.specs.Patterns.{zero, minusZero, half, minusHalf, one, minusOne, two, minusTwo, three, minusThree, four, minusFour, five, six, eight, nine, ten}
 
 pub record Worked : Type 0 where
@@ -37,6 +38,10 @@ quaternionValues q = q .w ∷ q .x ∷ q .y ∷ q .z ∷ []
 abbrev rows : List (List Float) → List Float
 rows [] = []
 rows (r ∷ m) = r ++ rows m
+
+-- row i of a matrix
+abbrev row : ℕ → List (List Float) → List Float
+row i m = getD m i []
 
 abbrev matrixValues : Matrix Float → List Float
 matrixValues m = rows (vectorValues (m .row0) ∷ vectorValues (m .row1) ∷ vectorValues (m .row2) ∷ [])
@@ -151,6 +156,14 @@ q7·1·5·11 = quaternion half 0x3fb2_4924_9249_2492 0x3fd6_db6d_b6db_6db7 0x3fe
 -- (0, 2, 3, 6) / 7
 abbrev q0236 : Quaternion Float
 q0236 = quaternion zero 0x3fd2_4924_9249_2492 0x3fdb_6db6_db6d_b6db 0x3feb_6db6_db6d_b6db
+
+-- (10, 14, 17, 16) / 29
+abbrev q10·14·17·16 : Quaternion Float
+q10·14·17·16 = quaternion 0x3fd6_11a7_b961_1a7c 0x3fde_e584_69ee_5847 0x3fe2_c234_f72c_234f 0x3fe1_a7b9_611a_7b96
+
+-- (3, 1, 0) / 7 * 2 ^ -18: inside the series branch
+abbrev smallTurn : Vector Float
+smallTurn = vector 0x3ebb_6db6_db6d_b6db 0x3ea2_4924_9249_2492 zero
 
 unfoldable pub workedOrders : List Worked
 workedOrders =
@@ -327,4 +340,65 @@ workedOrders =
     ∷ zero ∷ zero ∷ zero ∷ zero ∷ zero ∷ half
     ∷ zero ∷ zero ∷ zero ∷ zero ∷ zero ∷ zero
     ∷ zero ∷ zero ∷ zero ∷ zero ∷ zero ∷ zero ∷ [])
+    -- normalize divides by the norm three times: x shows one, two and four divisions, the other values none
+    ∷ of elementValues (Galilean.normalize rounded (element (vector one two three) q10·14·17·16 (vector four five six) eight))
+    (one ∷ two ∷ three
+    ∷ 0x3fd6_11a7_b961_1a7d ∷ 0x3fde_e584_69ee_5847 ∷ 0x3fe2_c234_f72c_2350 ∷ 0x3fe1_a7b9_611a_7b97
+    ∷ four ∷ five ∷ six ∷ eight ∷ [])
+    -- inverse's Jacobian: the empty places are negated too
+    ∷ of (row 3) (Galilean.inverseJacobian rounded (element (vector one two three) unit (vector four five six) half))
+    (minusZero ∷ minusZero ∷ minusZero ∷ minusOne ∷ minusZero ∷ minusZero ∷ minusZero ∷ six ∷ 0xc014_0000_0000_0000 ∷ minusZero ∷ [])
+    ∷ of (row 9) (Galilean.inverseJacobian rounded (element (vector one two three) unit (vector four five six) half))
+    (minusZero ∷ minusZero ∷ minusZero ∷ minusZero ∷ minusZero ∷ minusZero ∷ minusZero ∷ minusZero ∷ minusZero ∷ minusOne ∷ [])
+    -- compose's: normalised four times, twice by inverse and twice by the adjoint
+    ∷ of (row 0) (Galilean.composeJacobianSelf rounded (element origin unit origin zero) (element origin q10·14·17·16 origin zero))
+    (0xbfd2_f2e9_2b87_7531 ∷ 0x3fee_49aa_28ca_1f0b ∷ 0x3fc0_7004_ded2_091e ∷ minusZero ∷ zero ∷ zero ∷ zero ∷ zero ∷ zero ∷ minusZero ∷ [])
+    ∷ of rows (Galilean.jacobianIdentity rounded)
+    (one ∷ zero ∷ zero ∷ zero ∷ zero ∷ zero ∷ zero ∷ zero ∷ zero ∷ zero
+    ∷ zero ∷ one ∷ zero ∷ zero ∷ zero ∷ zero ∷ zero ∷ zero ∷ zero ∷ zero
+    ∷ zero ∷ zero ∷ one ∷ zero ∷ zero ∷ zero ∷ zero ∷ zero ∷ zero ∷ zero
+    ∷ zero ∷ zero ∷ zero ∷ one ∷ zero ∷ zero ∷ zero ∷ zero ∷ zero ∷ zero
+    ∷ zero ∷ zero ∷ zero ∷ zero ∷ one ∷ zero ∷ zero ∷ zero ∷ zero ∷ zero
+    ∷ zero ∷ zero ∷ zero ∷ zero ∷ zero ∷ one ∷ zero ∷ zero ∷ zero ∷ zero
+    ∷ zero ∷ zero ∷ zero ∷ zero ∷ zero ∷ zero ∷ one ∷ zero ∷ zero ∷ zero
+    ∷ zero ∷ zero ∷ zero ∷ zero ∷ zero ∷ zero ∷ zero ∷ one ∷ zero ∷ zero
+    ∷ zero ∷ zero ∷ zero ∷ zero ∷ zero ∷ zero ∷ zero ∷ zero ∷ one ∷ zero
+    ∷ zero ∷ zero ∷ zero ∷ zero ∷ zero ∷ zero ∷ zero ∷ zero ∷ zero ∷ one ∷ [])
+    -- act's: R is negated before the product by hat p: the diagonal of that block is -0 if after it; and normalised twice
+    ∷ of rows (Galilean.actJacobianSelf rounded (element origin unit (vector one two three) two) (vector one two three))
+    (one ∷ zero ∷ zero ∷ two ∷ zero ∷ zero ∷ zero ∷ three ∷ minusTwo ∷ two
+    ∷ zero ∷ one ∷ zero ∷ zero ∷ two ∷ zero ∷ minusThree ∷ zero ∷ one ∷ four
+    ∷ zero ∷ zero ∷ one ∷ zero ∷ zero ∷ two ∷ two ∷ minusOne ∷ zero ∷ six ∷ [])
+    ∷ of (row 0) (Galilean.actJacobianSelf rounded (element origin q7·1·5·11 (vector one two three) two) (vector one two three))
+    (0xbfdf_58d0_fac6_87d4 ∷ 0xbfe7_829c_bc14_e5e0 ∷ 0x3fde_0a72_f053_9782 ∷ 0xbfef_58d0_fac6_87d4 ∷ 0xbff7_829c_bc14_e5e0 ∷ 0x3fee_0a72_f053_9782
+    ∷ 0x4009_2492_4924_9248 ∷ 0xbfff_0539_7829_cbc0 ∷ 0x3fcf_58d0_fac6_87d0 ∷ two ∷ [])
+    ∷ []
+
+-- exp and log where the angle is small
+unfoldable pub workedSeries : List Worked
+workedSeries =
+    -- M: (0,1) is ..f792 if w² is divided by 120 where it is to be by 720, and other bits if b scales a factor of hat² and not the product; (0,2) shows a's divisor.
+    -- The order of the two sums never shows: in each place hat or ½I has a zero
+    of matrixValues (GalileanSeries.sNuCoupling rounded divisors smallTurn)
+    (0x3fdf_ffff_ffff_ff21 ∷ 0x3d24_e5e0_a72f_02f2 ∷ 0x3e78_6186_1861_821c
+    ∷ 0x3d24_e5e0_a72f_02f2 ∷ 0x3fdf_ffff_ffff_f82a ∷ 0xbe92_4924_9249_2195
+    ∷ 0xbe78_6186_1861_821c ∷ 0x3e92_4924_9249_2195 ∷ 0x3fdf_ffff_ffff_f74b ∷ [])
+    -- all nine places are summed: +0 off the diagonal
+    ∷ of matrixValues (GalileanSeries.sNuCoupling rounded divisors origin)
+    (half ∷ zero ∷ zero ∷ zero ∷ half ∷ zero ∷ zero ∷ zero ∷ half ∷ [])
+    -- exp: s (M ν), and not (s M) ν or M (s ν), which show in each value of t; the quaternion is normalised once
+    ∷ of elementValues (GalileanSeries.exp rounded divisors (tangent (vector one zero two) (vector nine zero three) smallTurn three))
+    (0x402d_0000_2db6_dab2 ∷ 0xbed1_2492_029c_ba66 ∷ 0x4019_ffff_4924_8d64
+    ∷ 0x3fef_ffff_ffff_f2f2 ∷ 0x3eab_6db6_db6d_abaa ∷ 0x3e92_4924_9249_1d1c ∷ zero
+    ∷ 0x4022_0000_1b6d_b6db ∷ 0xbec4_9249_2492_4924 ∷ 0x4007_fffe_b6db_6db7 ∷ three ∷ [])
+    -- the first product first: v is +0 if a sum starts at zero; and a zero is multiplied and added too: v's x is -0 if it is left out
+    ∷ of elementValues (GalileanSeries.exp rounded divisors (tangent minusZeros minusZeros minusZeros minusZero))
+    (zero ∷ zero ∷ zero ∷ one ∷ minusZero ∷ minusZero ∷ minusZero ∷ minusZero ∷ minusZero ∷ minusZero ∷ minusZero ∷ [])
+    ∷ of elementValues (GalileanSeries.exp rounded divisors (tangent origin (vector minusZero zero zero) origin zero))
+    (zero ∷ zero ∷ zero ∷ one ∷ zero ∷ zero ∷ zero ∷ zero ∷ zero ∷ zero ∷ zero ∷ [])
+    -- log: J (t - s (M ν)) with J the inverse's and ν its own: its expansion, (s M) ν, M (s ν), M v and exp's J show in each value of ρ
+    ∷ of tangentValues (GalileanSeries.logAt rounded divisors smallTurn (element (vector three three three) unit (vector one three two) three))
+    (0x3ff8_0000_4924_924b ∷ 0xbff8_0000_db6d_b6dc ∷ 0x3ec6_db6d_b6d4_4628
+    ∷ 0x3fef_fffe_db6d_b6db ∷ 0x4008_0000_db6d_b6db ∷ 0x3fff_fffd_b6db_6db7
+    ∷ 0x3ebb_6db6_db6d_b6db ∷ 0x3ea2_4924_9249_2492 ∷ zero ∷ three ∷ [])
     ∷ []

@@ -1,11 +1,16 @@
 -- Matrices of any size, as lists of rows. Definitions only.
-use mathlib.Core.List.{List, [], _∷_, map}
+use mathlib.Core.List.{List, [], _∷_, _++_, map}
 use Rattle.law.specs.Arithmetic.{Arithmetic}
+
+-- the values, one row after the other
+unfoldable pub byRow : {A : Type 0} → List (List A) → List A
+byRow [] = []
+byRow (r ∷ m) = r ++ byRow m
 
 module _ {A : Type 0} (o : Arithmetic A) where
   infixl 60 _⊕_ _⊖_
   infixl 70 _⊗_
-  open Arithmetic o using (zero as 𝟘, add as _⊕_, sub as _⊖_, mul as _⊗_)
+  open Arithmetic o using (zero as 𝟘, add as _⊕_, sub as _⊖_, mul as _⊗_, neg as ⊝)
 
   -- s and the products of the places
   abbrev dotFrom : A → List A → List A → A
@@ -46,3 +51,6 @@ module _ {A : Type 0} (o : Arithmetic A) where
   sub [] n = []
   sub (r ∷ m) [] = []
   sub (r ∷ m) (s ∷ n) = subRow r s ∷ sub m n
+
+  unfoldable pub neg : List (List A) → List (List A)
+  neg m = map (λ r. map (λ a. ⊝ a) r) m

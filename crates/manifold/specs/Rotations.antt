@@ -39,11 +39,8 @@ unfoldable pub rightMinusJacobianOther : Element → Element → Mat3
 rightMinusJacobianOther a b = Matrices.neg (Tangents.leftJacobianInv (rightMinus a b))
 
 -- Log (a ∘ b⁻¹)
-unfoldable pub leftBetween : Element → Element → Element
-leftBetween a b = Elements.compose a (Elements.inverse b)
-
 unfoldable pub leftMinus : Element → Element → Tangent
-leftMinus a b = Elements.log (leftBetween a b)
+leftMinus a b = Elements.log (Elements.compose a (Elements.inverse b))
 
 unfoldable pub leftMinusJacobianSelf : Element → Element → Mat3
 leftMinusJacobianSelf a b = Matrices.mul (Tangents.rightJacobianInv (leftMinus a b)) (Elements.adjoint b)

@@ -54,6 +54,3 @@ between left right = onElements Answer·Refused (λ a b. elementAnswer (Rotation
 
 unfoldable pub betweenJacobianSelf : List Float → List Float → MatrixAnswer
 betweenJacobianSelf left right = onElements refusedMatrix (λ a b. matrixAnswer (Rotations.betweenJacobianSelf a b)) (checkElements left right)
-
-unfoldable pub betweenJacobianOther : List Float → List Float → MatrixAnswer
-betweenJacobianOther left right = onElements refusedMatrix (λ a b. matrixAnswer (Matrices.identity)) (checkElements left right)

@@ -36,7 +36,7 @@ unfoldable pub checkRightMinusJacobian : List Float → List Float → Two
 checkRightMinusJacobian left right = onElements Elements·Refused (λ a b. withinMinusJacobian (Rotations.between b a) a b) (checkElements left right)
 
 unfoldable pub checkLeftMinus : List Float → List Float → Two
-checkLeftMinus left right = onElements Elements·Refused (λ a b. withinMinus (Rotations.leftBetween a b) a b) (checkElements left right)
+checkLeftMinus left right = onElements Elements·Refused (λ a b. withinMinus (Elements.compose a (Elements.inverse b)) a b) (checkElements left right)
 
 unfoldable pub checkLeftMinusJacobian : List Float → List Float → Two
-checkLeftMinusJacobian left right = onElements Elements·Refused (λ a b. withinMinusJacobian (Rotations.leftBetween a b) a b) (checkElements left right)
+checkLeftMinusJacobian left right = onElements Elements·Refused (λ a b. withinMinusJacobian (Elements.compose a (Elements.inverse b)) a b) (checkElements left right)

@@ -11,6 +11,7 @@ use so3_blocks::Elements;
 use so3_blocks::MatrixAnswer;
 use so3_blocks::TangentAnswer;
 ghost use mathlib.Core.Path.{_≡_};
+ghost use Rattle.so3_blocks.specs.Calls as So3;
 ghost use Rattle.manifold_blocks.specs.Turns as Turns;
 ghost use Rattle.manifold_blocks.specs.Calls as Calls;
 
@@ -75,7 +76,7 @@ fn check_left_minus(left: &[f64], right: &[f64]) -> Elements
     ensures { λ r. ⌜ r ≡ Turns.checkLeftMinus (now (left .entry)) (now (right .entry)) ⌝ }
 {
     match so3_blocks::check_elements(left, right) {
-        Elements::Done(a, b) => within_minus(manifold::so3_left_between(a, b), a, b),
+        Elements::Done(a, b) => within_minus(a.compose(b.inverse()), a, b),
         Elements::Refused(r) => Elements::Refused(r),
     }
 }
@@ -84,7 +85,7 @@ fn check_left_minus_jacobian(left: &[f64], right: &[f64]) -> Elements
     ensures { λ r. ⌜ r ≡ Turns.checkLeftMinusJacobian (now (left .entry)) (now (right .entry)) ⌝ }
 {
     match so3_blocks::check_elements(left, right) {
-        Elements::Done(a, b) => within_minus_jacobian(manifold::so3_left_between(a, b), a, b),
+        Elements::Done(a, b) => within_minus_jacobian(a.compose(b.inverse()), a, b),
         Elements::Refused(r) => Elements::Refused(r),
     }
 }
@@ -247,13 +248,11 @@ pub fn so3_between_jacobian_self(left: &[f64], right: &[f64]) -> MatrixAnswer
     }
 }
 
+// As compose's with respect to its right operand.
 pub fn so3_between_jacobian_other(left: &[f64], right: &[f64]) -> MatrixAnswer
-    ensures { λ r. ⌜ r ≡ Calls.betweenJacobianOther (now (left .entry)) (now (right .entry)) ⌝ }
+    ensures { λ r. ⌜ r ≡ So3.composeJacobianOther (now (left .entry)) (now (right .entry)) ⌝ }
 {
-    match so3_blocks::check_elements(left, right) {
-        Elements::Done(_, _) => so3_blocks::matrix_answer(Mat3::identity()),
-        Elements::Refused(r) => so3_blocks::refused_matrix(r),
-    }
+    so3_blocks::compose_jacobian_other(left, right)
 }
 
 // Plus is the one on the right.

@@ -12,8 +12,8 @@ use Rattle.checks.specs.declared.Refusal.{Refusal}
 use Rattle.checks.specs.declared.Refusal.the-variants.{Length, NotFinite, NotUnit, Turn, Overflow}
 use Rattle.sgal3.specs.Elements.{coeffs}
 use Rattle.sgal3.specs.declared.Element.{Element}
-use Rattle.sgal3.specs.declared.Answer.{Answer}
-use Rattle.sgal3.specs.declared.Answer.the-variants.{Done, Refused}
+use Rattle.sgal3_composition.specs.declared.Answer.{Answer}
+use Rattle.sgal3_composition.specs.declared.Answer.the-variants.{Done, Refused}
 use Rattle.words.proofs.Stores.{sets-append, join3}
 use Rattle.report.proofs.Digits.{hex-length, refusal-short}
 use Rattle.report.specs.Text.{hex, place, ending, line, lines, text, Written}

@@ -9,8 +9,8 @@ use lib.ListN.{length, take}
 use lib.Ieee.{Float, binary64, toBits}
 use Rattle.checks.specs.Refusals.{number}
 use Rattle.sgal3.specs.Elements.{coeffs}
-use Rattle.sgal3.specs.declared.Answer.{Answer}
-use Rattle.sgal3.specs.declared.Answer.the-variants.{Done, Refused}
+use Rattle.sgal3_composition.specs.declared.Answer.{Answer}
+use Rattle.sgal3_composition.specs.declared.Answer.the-variants.{Done, Refused}
 use Rattle.handset.specs.Blocks as Blocks
 use Rattle.report.specs.Ascii.{ascii}
 

@@ -1,5 +1,5 @@
 // What the program `chain` prints, as a function on slices.
-use sgal3::Answer;
+use sgal3_composition::Answer;
 ghost use mathlib.Core.Path.{_≡_};
 ghost use Prim.Native.Nat.{_+_, _<_, _≤_};
 ghost use lib.ListN.{length};

@@ -1,3 +1,2 @@
 pub mod Elements
-pub mod Calls
-pub mod Order
+pub mod Tangents

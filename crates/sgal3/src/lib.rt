@@ -1,13 +1,11 @@
-// The Galilean group SGal(3): elements by value, and the calls on blocks of eleven values (sgal3.rs).
-use checks::Check;
-use checks::Refusal;
+// The Galilean group SGal(3): elements and tangents by value (sgal3.rs). A block's quaternion is kept as given; rotation_impl
+// normalises it, and an operation of SO(3) on that once more.
+use linear::Mat3;
 use linear::Quaternion;
 use linear::Vec3;
 ghost use mathlib.Core.Path.{_≡_};
-ghost use Prim.Native.Nat.{_/_};
-ghost use lib.ListN.{length};
 ghost use Rattle.sgal3.specs.Elements as Elements;
-ghost use Rattle.sgal3.specs.Calls as Calls;
+ghost use Rattle.sgal3.specs.Tangents as Tangents;
 
 // A block's values in their order: translation, quaternion w, x, y, z, velocity, time.
 pub struct Element {
@@ -17,10 +15,12 @@ pub struct Element {
     pub time: f64,
 }
 
-// What a call answers.
-pub enum Answer {
-    Done(Element),
-    Refused(Refusal),
+// A tangent's values in their order.
+pub struct Tangent {
+    pub rho: Vec3,
+    pub nu: Vec3,
+    pub theta: Vec3,
+    pub s: f64,
 }
 
 impl Element {
@@ -35,20 +35,34 @@ impl Element {
         }
     }
 
-    // The rotation, normalised by rotation_impl and once more by the SO3 call above it.
-    fn unit_rotation(self) -> Quaternion
-        ensures { λ r. ⌜ r ≡ Elements.unitRotation self ⌝ }
+    // The rotation, normalised once.
+    pub fn rotation_impl(self) -> so3::Element
+        ensures { λ r. ⌜ r ≡ Elements.rotationImpl self ⌝ }
+    {
+        let q = self.rotation;
+        so3::Element::from_quaternion_wxyz(q.w, q.x, q.y, q.z)
+    }
+
+    // Normalised by rotation_impl, and once more by SO(3)'s unit_quaternion.
+    pub fn rotation_quaternion(self) -> Quaternion
+        ensures { λ r. ⌜ r ≡ Elements.rotationQuaternion self ⌝ }
     {
         self.rotation.normalize().normalize()
+    }
+
+    pub fn rotation_matrix(self) -> Mat3
+        ensures { λ r. ⌜ r ≡ Elements.rotationMatrix self ⌝ }
+    {
+        self.rotation_quaternion().rotation_matrix()
     }
 
     pub fn compose(self, other: Element) -> Element
         ensures { λ r. ⌜ r ≡ Elements.compose self other ⌝ }
     {
-        let rot = self.unit_rotation();
+        let rot = self.rotation_quaternion();
         let v = self.velocity;
         let s2 = other.time;
-        let rotation = rot.mul(other.unit_rotation());
+        let rotation = rot.mul(other.rotation_quaternion());
         let translation = rot.rotate(other.translation)
             .add(self.translation)
             .add(v.scale(s2));
@@ -64,7 +78,7 @@ impl Element {
     pub fn inverse(self) -> Element
         ensures { λ r. ⌜ r ≡ Elements.inverse self ⌝ }
     {
-        let rotation = self.unit_rotation().conjugate();
+        let rotation = self.rotation_quaternion().conjugate();
         let rot_inv = rotation.normalize();
         let v = self.velocity;
         let s = self.time;
@@ -78,6 +92,63 @@ impl Element {
         }
     }
 
+    // Divides by the norm three times: rotation_impl once, SO(3)'s normalize twice.
+    pub fn normalize(self) -> Element
+        ensures { λ r. ⌜ r ≡ Elements.normalize self ⌝ }
+    {
+        let translation = self.translation;
+        let rot = self.rotation_impl().normalize();
+        let rotation = rot.params;
+        let velocity = self.velocity;
+        Element {
+            translation,
+            rotation,
+            velocity,
+            time: self.time,
+        }
+    }
+
+    // The point is taken at the element's own time.
+    pub fn act(self, vector: Vec3) -> Vec3
+        ensures { λ r. ⌜ r ≡ Elements.act self vector ⌝ }
+    {
+        self.rotation_quaternion()
+            .rotate(vector)
+            .add(self.translation)
+            .add(self.velocity.scale(self.time))
+    }
+
+    // Sees the quaternion after rotation_impl has normalised it.
+    pub fn is_valid(self, tolerance: f64) -> bool
+        ensures { λ r. ⌜ r ≡ Elements.isValid self tolerance ⌝ }
+    {
+        let t = self.translation;
+        let v = self.velocity;
+        let values = [t.x, t.y, t.z, v.x, v.y, v.z, self.time];
+        if !checks::all_finite(&values) {
+            return false;
+        }
+        self.rotation_impl().is_valid(tolerance)
+    }
+
+    // The series branch; the call refuses where it would be left.
+    pub fn log(self) -> Tangent
+        ensures { λ r. ⌜ r ≡ Elements.log self ⌝ }
+    {
+        let turn = self.rotation_impl().log();
+        let theta = turn.theta;
+        let v_inv = turn.left_jacobian_inv();
+        let nu = v_inv.apply(self.velocity);
+        let coupling = s_nu_coupling(theta);
+        let rho = v_inv.apply(self.translation.sub(coupling.apply(nu).scale(self.time)));
+        Tangent {
+            rho,
+            nu,
+            theta,
+            s: self.time,
+        }
+    }
+
     // The eleven values of a block.
     pub fn coeffs(self) -> [f64; 11]
         ensures { λ r. ⌜ r ≡ Elements.coeffs self ⌝ }
@@ -87,138 +158,111 @@ impl Element {
         let v = self.velocity;
         [t.x, t.y, t.z, q.w, q.x, q.y, q.z, v.x, v.y, v.z, self.time]
     }
+}
 
-    // The answer, or the refusal of a value that is not finite.
-    fn unless_overflow(self) -> Answer
-        ensures { λ r. ⌜ r ≡ Calls.unlessOverflow self ⌝ }
+// M of exp and log: what a velocity adds to the translation in a unit of time while the rotation turns.
+fn s_nu_coupling(theta: Vec3) -> Mat3
+    ensures { λ r. ⌜ r ≡ Tangents.sNuCoupling theta ⌝ }
+{
+    let w_squared = theta.norm_squared();
+    let theta_skew = Mat3::hat(theta);
+    Mat3::identity()
+        .scale(0.5)
+        .add(theta_skew.scale(1.0 / 6.0 - w_squared / 120.0))
+        .add(
+            theta_skew
+                .mul(theta_skew)
+                .scale(1.0 / 24.0 - w_squared / 720.0),
+        )
+}
+
+impl Tangent {
+    pub fn zero() -> Tangent
+        ensures { λ r. ⌜ r ≡ Tangents.zero ⌝ }
     {
-        let values = self.coeffs();
-        if checks::all_finite(&values) {
-            Answer::Done(self)
-        } else {
-            Answer::Refused(Refusal::Overflow)
+        Tangent {
+            rho: Vec3::zero(),
+            nu: Vec3::zero(),
+            theta: Vec3::zero(),
+            s: 0.0,
         }
     }
-}
 
-fn element_of(s: &[f64]) -> Element
-    requires { ⌜ length (now s) ≡ 11 ⌝ }
-    ensures { λ r. ⌜ r ≡ Elements.elementOf (now (s .entry)) ⌝ }
-{
-    Element {
-        translation: Vec3 {
-            x: s[0],
-            y: s[1],
-            z: s[2],
-        },
-        rotation: Quaternion {
-            w: s[3],
-            x: s[4],
-            y: s[5],
-            z: s[6],
-        },
-        velocity: Vec3 {
-            x: s[7],
-            y: s[8],
-            z: s[9],
-        },
-        time: s[10],
+    // The series branch; the call refuses where it would be left.
+    pub fn exp(self) -> Element
+        ensures { λ r. ⌜ r ≡ Tangents.exp self ⌝ }
+    {
+        let nu = self.nu;
+        let theta = self.theta;
+        let turn = so3::Tangent { theta };
+        let rot = turn.exp();
+        let rotation = rot.params;
+        let v_matrix = turn.left_jacobian();
+        let velocity = v_matrix.apply(nu);
+        let coupling = s_nu_coupling(theta);
+        let translation = v_matrix
+            .apply(self.rho)
+            .add(coupling.apply(nu).scale(self.s));
+        Element {
+            translation,
+            rotation,
+            velocity,
+            time: self.s,
+        }
     }
-}
 
-// The element of a block, or why it is refused.
-pub fn check_element(block: &[f64], tolerance: f64) -> Answer
-    ensures { λ r. ⌜ r ≡ Calls.checkElement (now (block .entry)) tolerance ⌝ }
-{
-    match checks::check_param_block(block, 11, 3, tolerance) {
-        Check::Passed => Answer::Done(element_of(block)),
-        Check::Refused(r) => Answer::Refused(r),
+    // Theta is kept as it is where its norm is not above 2^-52.
+    pub fn normalize(self) -> Tangent
+        ensures { λ r. ⌜ r ≡ Tangents.normalize self ⌝ }
+    {
+        let rho = self.rho;
+        let nu = self.nu;
+        let given = self.theta;
+        let turn = so3::Tangent { theta: given }.normalize();
+        let theta = turn.theta;
+        Tangent {
+            rho,
+            nu,
+            theta,
+            s: self.s,
+        }
     }
-}
 
-// Of two answers, of which one at least is refused, the refusal that is tried first.
-fn first_refusal(left: Answer, right: Answer) -> Answer
-    ensures { λ r. ⌜ r ≡ Calls.firstRefusal left right ⌝ }
-{
-    let Answer::Refused(a) = left else {
-        return right;
-    };
-    let Answer::Refused(b) = right else {
-        return left;
-    };
-    Answer::Refused(a.earlier(b))
-}
-
-// Composes what two blocks, or a chain so far and a block, came to.
-pub fn compose_answers(left: Answer, right: Answer) -> Answer
-    ensures { λ r. ⌜ r ≡ Calls.composeAnswers left right ⌝ }
-{
-    let Answer::Done(a) = left else {
-        return first_refusal(left, right);
-    };
-    let Answer::Done(b) = right else {
-        return right;
-    };
-    a.compose(b).unless_overflow()
-}
-
-pub fn inverse_answer(block: Answer) -> Answer
-    ensures { λ r. ⌜ r ≡ Calls.inverseAnswer block ⌝ }
-{
-    let Answer::Done(a) = block else {
-        return block;
-    };
-    a.inverse().unless_overflow()
-}
-
-pub fn compose(left: &[f64], right: &[f64]) -> Answer
-    ensures { λ r. ⌜ r ≡ Calls.compose (now (left .entry)) (now (right .entry)) ⌝ }
-{
-    compose_answers(
-        check_element(left, checks::tolerance()),
-        check_element(right, checks::tolerance()),
-    )
-}
-
-pub fn inverse(block: &[f64]) -> Answer
-    ensures { λ r. ⌜ r ≡ Calls.inverse (now (block .entry)) ⌝ }
-{
-    inverse_answer(check_element(block, checks::tolerance()))
-}
-
-// The blocks of s, composed one after the other from the identity. One pass: a block's refusal comes before an overflow
-// by its number, wherever it stands.
-fn chain_blocks(s: &[f64]) -> Answer
-    ensures { λ r. ⌜ r ≡ Calls.chainBlocks (length (now (s .entry)) / 11) (now (s .entry)) ⌝ }
-{
-    let mut left = s.len() / 11;
-    let mut at = 0;
-    let mut held = Answer::Done(Element::identity());
-    while 0 < left {
-        let end = at + 11;
-        held = compose_answers(held, check_element(&s[at..end], checks::tolerance()));
-        at = end;
-        left -= 1;
+    // Theta is made zero where its norm is not above 2^-52.
+    pub fn normalized(self) -> Tangent
+        ensures { λ r. ⌜ r ≡ Tangents.normalized self ⌝ }
+    {
+        let rho = self.rho;
+        let nu = self.nu;
+        let given = self.theta;
+        let turn = so3::Tangent { theta: given }.normalized();
+        let theta = turn.theta;
+        Tangent {
+            rho,
+            nu,
+            theta,
+            s: self.s,
+        }
     }
-    held
-}
 
-// Up to 4,096 blocks, laid end to end.
-pub fn chain(blocks: &[f64]) -> Answer
-    ensures { λ r. ⌜ r ≡ Calls.chain (now (blocks .entry)) ⌝ }
-{
-    let actual = blocks.len();
-    if 45056 < actual {
-        return Answer::Refused(Refusal::Length {
-            expected: 45056,
-            actual,
-        });
+    // The ten values of a tangent.
+    pub fn coeffs(self) -> [f64; 10]
+        ensures { λ r. ⌜ r ≡ Tangents.coeffs self ⌝ }
+    {
+        let rho = self.rho;
+        let nu = self.nu;
+        let theta = self.theta;
+        [
+            rho.x,
+            rho.y,
+            rho.z,
+            nu.x,
+            nu.y,
+            nu.z,
+            theta.x,
+            theta.y,
+            theta.z,
+            self.s,
+        ]
     }
-    if actual % 11 != 0 {
-        return Answer::Refused(Refusal::Length {
-            expected: actual - actual % 11,
-            actual,
-        });
-    }
-    chain_blocks(blocks)
 }

@@ -77,9 +77,6 @@ normalize block = onElement Answer·Refused (λ a. elementAnswer (Elements.norma
 unfoldable pub exp : List Float → Answer
 exp tangent = onTangent Answer·Refused (λ t. elementAnswer (Tangents.exp t)) (checkExp tangent)
 
-unfoldable pub expJacobian : List Float → MatrixAnswer
-expJacobian tangent = onTangent refusedMatrix (λ t. matrixAnswer (Tangents.rightJacobian t)) (checkExp tangent)
-
 unfoldable pub leftJacobian : List Float → MatrixAnswer
 leftJacobian tangent = onTangent refusedMatrix (λ t. matrixAnswer (Tangents.leftJacobian t)) (checkExp tangent)
 

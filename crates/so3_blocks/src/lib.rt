@@ -185,6 +185,15 @@ pub fn check_element_and_vector(block: &[f64], vector: &[f64]) -> ElementAndVect
     }
 }
 
+pub fn check_vector(vector: &[f64]) -> VectorAnswer
+    ensures { λ r. ⌜ r ≡ Inputs.checkVector (now (vector .entry)) ⌝ }
+{
+    match checks::check_values(vector, 3) {
+        Check::Passed => VectorAnswer::Done(vector_of(vector)),
+        Check::Refused(r) => VectorAnswer::Refused(r),
+    }
+}
+
 pub fn check_tangent(tangent: &[f64]) -> TangentAnswer
     ensures { λ r. ⌜ r ≡ Inputs.checkTangent (now (tangent .entry)) ⌝ }
 {
@@ -243,7 +252,7 @@ pub fn within_exp(t: Tangent) -> TangentAnswer
 }
 
 // Log's Jacobian tests the half angle, and the squared angle of log's answer.
-fn within_log_jacobian(a: Element) -> Answer
+pub fn within_log_jacobian(a: Element) -> Answer
     ensures { λ r. ⌜ r ≡ Inputs.withinLogJacobian a ⌝ }
 {
     if leaves_series(a.log().theta_squared()) {
@@ -442,15 +451,6 @@ pub fn exp(tangent: &[f64]) -> Answer
     }
 }
 
-pub fn exp_jacobian(tangent: &[f64]) -> MatrixAnswer
-    ensures { λ r. ⌜ r ≡ Calls.expJacobian (now (tangent .entry)) ⌝ }
-{
-    match check_exp(tangent) {
-        TangentAnswer::Done(t) => matrix_answer(t.right_jacobian()),
-        TangentAnswer::Refused(r) => refused_matrix(r),
-    }
-}
-
 pub fn left_jacobian(tangent: &[f64]) -> MatrixAnswer
     ensures { λ r. ⌜ r ≡ Calls.leftJacobian (now (tangent .entry)) ⌝ }
 {
@@ -467,6 +467,13 @@ pub fn right_jacobian(tangent: &[f64]) -> MatrixAnswer
         TangentAnswer::Done(t) => matrix_answer(t.right_jacobian()),
         TangentAnswer::Refused(r) => refused_matrix(r),
     }
+}
+
+// Exp's is the right one.
+pub fn exp_jacobian(tangent: &[f64]) -> MatrixAnswer
+    ensures { λ r. ⌜ r ≡ Calls.rightJacobian (now (tangent .entry)) ⌝ }
+{
+    right_jacobian(tangent)
 }
 
 pub fn left_jacobian_inv(tangent: &[f64]) -> MatrixAnswer

@@ -2,9 +2,12 @@
 // pattern and the pattern of its root.
 ghost use mathlib.Core.Path.{_≡_};
 ghost use Prim.Native.Nat.{_+_, _/_, _^_, _≤_, _<_};
+ghost use mathlib.Core.Bool.{false};
 ghost use lib.Dec.{eqb};
 ghost use lib.ListN.{length};
+ghost use lib.Seq.{sets};
 ghost use Rattle.number.specs.Root.{squareRootBits};
+ghost use Rattle.sqrt_vectors.specs.Line.{patternLine};
 ghost use Rattle.sqrt_vectors.specs.Pairs.{wrong, wrongPairs};
 use libc::STDOUT_FILENO;
 
@@ -82,6 +85,8 @@ fn with_pairs(t: Tally, s: &[u8]) -> Tally
 fn unsound(t: Tally) -> Tally
     ensures { λ r. ⌜ r .compared ≡ t .compared ⌝ }
     ensures { λ r. ⌜ r .different ≡ t .different ⌝ }
+    ensures { λ r. ⌜ r .more ≡ false ⌝ }
+    ensures { λ r. ⌜ r .sound ≡ false ⌝ }
 {
     let mut r = t;
     r.more = false;
@@ -89,19 +94,26 @@ fn unsound(t: Tally) -> Tally
     r
 }
 
-// Whether the file has ended. A short piece does not say so: a read may have failed.
-fn at_end(fd: i32, path: &[u8]) -> bool {
+// The tally after a piece that was short. That does not say that the file has ended, since a read may have failed: the file is
+// asked for one byte more.
+fn at_end(t: Tally, fd: i32, path: &[u8]) -> Tally
+    ensures { λ r. ⌜ r .compared ≡ t .compared ⌝ }
+    ensures { λ r. ⌜ r .different ≡ t .different ⌝ }
+    ensures { λ r. ⌜ r .more ≡ false ⌝ }
+{
     let mut byte = [0u8; 1];
     let got = libc::read(fd, &mut byte);
     if got < 0 {
         os::fail(path);
-        return false;
+        return unsound(t);
     }
     if got > 0 {
         io::write_all(STDOUT_FILENO, b"The file was not read to its end.\n");
-        return false;
+        return unsound(t);
     }
-    true
+    let mut r = t;
+    r.more = false;
+    r
 }
 
 // The tally with the next piece of the file.
@@ -113,7 +125,7 @@ fn with_piece(t: Tally, fd: i32, path: &[u8]) -> Tally
 {
     let mut buf = io::large_buffer();
     let n = io::read_full(fd, &mut buf);
-    let mut r = with_pairs(t, &buf[..n]);
+    let r = with_pairs(t, &buf[..n]);
     if n == 65536 {
         return r;
     }
@@ -121,11 +133,7 @@ fn with_piece(t: Tally, fd: i32, path: &[u8]) -> Tally
         io::write_all(STDOUT_FILENO, b"The file's length is no multiple of 16.\n");
         return unsound(r);
     }
-    if !at_end(fd, path) {
-        return unsound(r);
-    }
-    r.more = false;
-    r
+    at_end(r, fd, path)
 }
 
 // The tally of the whole file. A proved loop has to end, so it counts its pieces; no file has as many.
@@ -148,26 +156,28 @@ fn compare_file(fd: i32, path: &[u8]) -> Tally
     t
 }
 
-fn print_pattern(name: &[u8], b: u64) {
-    io::write_all(STDOUT_FILENO, name);
-    io::print_hex(STDOUT_FILENO, b, 16);
-    io::write_all(STDOUT_FILENO, b"\n");
+// Puts the bytes into out from `at` on.
+fn put(out: &mut [u8], at: usize, bytes: &[u8])
+    requires { ⌜ at + length (now bytes) ≤ length (now out) ⌝ }
+    ensures { λ _. ⌜ now (out .exit) ≡ sets (now (out .entry)) at (now (bytes .entry)) ⌝ }
+{
+    let mut i = 0usize;
+    while i < bytes.len() {
+        out[at + i] = bytes[i];
+        i += 1;
+    }
 }
 
-fn report(t: Tally) {
-    io::print_decimal(STDOUT_FILENO, t.compared);
-    io::write_all(STDOUT_FILENO, b" patterns compared\n");
-    io::print_decimal(STDOUT_FILENO, t.different);
-    io::write_all(STDOUT_FILENO, b" differ\n");
-    if t.different > 0 {
-        print_pattern(b"first pattern that differs: ", t.pattern);
-        print_pattern(b"its stored root:            ", t.root);
-        print_pattern(
-            b"its root by sqrt_bits:      ",
-            number::sqrt_bits(t.pattern),
-        );
-        print_pattern(b"its root by sqrt:           ", root_by_value(t.pattern));
-    }
+// The line of a pattern: its name, and its bits in sixteen digits.
+fn pattern_line(name: &[u8; 28], b: u64) -> [u8; 45]
+    ensures { λ r. ⌜ r ≡ patternLine (now (name .entry)) b ⌝ }
+{
+    let mut digits = [0u8; 16];
+    let k = io::hex(b, 16, &mut digits);
+    let mut line = [b'\n'; 45];
+    put(&mut line, 0, name);
+    put(&mut line, 28, &digits[..k]);
+    line
 }
 
 fn main() {
@@ -195,5 +205,19 @@ fn main() {
         io::write_all(STDOUT_FILENO, b"The file is empty.\n");
         return;
     }
-    report(t);
+    io::print_decimal(STDOUT_FILENO, t.compared);
+    io::write_all(STDOUT_FILENO, b" patterns compared\n");
+    io::print_decimal(STDOUT_FILENO, t.different);
+    io::write_all(STDOUT_FILENO, b" differ\n");
+    if t.different > 0 {
+        let b = t.pattern;
+        let first = pattern_line(b"first pattern that differs: ", b);
+        let stored = pattern_line(b"its stored root:            ", t.root);
+        let by_bits = pattern_line(b"its root by sqrt_bits:      ", number::sqrt_bits(b));
+        let by_value = pattern_line(b"its root by sqrt:           ", root_by_value(b));
+        io::write_all(STDOUT_FILENO, &first);
+        io::write_all(STDOUT_FILENO, &stored);
+        io::write_all(STDOUT_FILENO, &by_bits);
+        io::write_all(STDOUT_FILENO, &by_value);
+    }
 }

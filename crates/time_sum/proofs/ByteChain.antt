@@ -15,7 +15,7 @@ use Rattle.checks.specs.declared.Refusal.the-variants.{Length}
 use Rattle.number.specs.Exact.{exact}
 use Rattle.words.specs.Word.{valueAt, wordAt}
 use Rattle.sgal3.specs.declared.Element.{Element}
-use Rattle.sgal3.specs.declared.Answer.the-variants.{Done, Refused}
+use Rattle.sgal3_composition.specs.declared.Answer.the-variants.{Done, Refused}
 use Rattle.handset.specs.Blocks.{valuesAt, chainBlocks, chain}
 use Rattle.time_sum.specs.RunningSum.{blocks, exactSum, magnitudeSum}
 use Rattle.time_sum.proofs.Times.{never}

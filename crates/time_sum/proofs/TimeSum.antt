@@ -17,10 +17,10 @@ use Rattle.number.specs.Exact.{exact, count}
 use Rattle.rounding.proofs.Laws.{add-operands}
 use Rattle.law.specs.Galilean as Law
 use Rattle.sgal3.specs.Elements as Elements
-use Rattle.sgal3.specs.Calls as Calls
+use Rattle.sgal3_composition.specs.Calls as Calls
 use Rattle.sgal3.specs.declared.Element.{Element}
-use Rattle.sgal3.specs.declared.Answer.{Answer}
-use Rattle.sgal3.specs.declared.Answer.the-variants.{Done, Refused}
+use Rattle.sgal3_composition.specs.declared.Answer.{Answer}
+use Rattle.sgal3_composition.specs.declared.Answer.the-variants.{Done, Refused}
 use Rattle.time_sum.specs.RunningSum.{RunningSum, start, timeOf, entered, after, Binary64, Within, blocks, exactSum, magnitudeSum}
 use Rattle.time_sum.proofs.Bound.{Summed, starts, adds}
 use Rattle.time_sum.proofs.Times.{never, composed, checked, own-time}

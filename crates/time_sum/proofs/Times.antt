@@ -15,10 +15,10 @@ use Rattle.checks.specs.declared.Check.the-variants.{Passed, Refused as Check·
 use Rattle.checks.specs.declared.Refusal.the-variants.{Overflow}
 use Rattle.law.specs.Galilean as Law
 use Rattle.sgal3.specs.Elements as Elements
-use Rattle.sgal3.specs.Calls as Calls
+use Rattle.sgal3_composition.specs.Calls as Calls
 use Rattle.sgal3.specs.declared.Element.{Element}
-use Rattle.sgal3.specs.declared.Answer.{Answer}
-use Rattle.sgal3.specs.declared.Answer.the-variants.{Done, Refused}
+use Rattle.sgal3_composition.specs.declared.Answer.{Answer}
+use Rattle.sgal3_composition.specs.declared.Answer.the-variants.{Done, Refused}
 use Rattle.time_sum.specs.RunningSum.{timeOf}
 
 pub never : {A : Type 0} {r : _} {e : Element} → Refused r ≡ Done e → A
@@ -44,8 +44,8 @@ record Finished (e c : Element) : Type 0 where
   is : e ≡ c
   finite : T (allFinite (Elements.coeffs e))
 
-finished : (e c : Element) → Calls.unlessOverflow e ≡ Done c → Finished e c
-unfolding Calls.unlessOverflow
+finished : (e c : Element) → Calls.elementAnswer e ≡ Done c → Finished e c
+unfolding Calls.elementAnswer
 finished e c = go (allFinite (Elements.coeffs e)) refl
   where
     go : (b : Bool) → allFinite (Elements.coeffs e) ≡ b → cond b (Done e) (Refused Overflow) ≡ Done c → Finished e c

@@ -7,10 +7,10 @@ use lib.ListN.{getD, take, drop}
 use lib.Ieee.{Float, nan, binary64, fits}
 use Rattle.number.specs.Exact.{exact, count}
 use Rattle.sgal3.specs.Elements.{identity, coeffs}
-use Rattle.sgal3.specs.Calls as Calls
+use Rattle.sgal3_composition.specs.Calls as Calls
 use Rattle.sgal3.specs.declared.Element.{Element}
-use Rattle.sgal3.specs.declared.Answer.{Answer}
-use Rattle.sgal3.specs.declared.Answer.the-variants.{Done, Refused}
+use Rattle.sgal3_composition.specs.declared.Answer.{Answer}
+use Rattle.sgal3_composition.specs.declared.Answer.the-variants.{Done, Refused}
 
 -- The paper's book of demand 3: the element held, and of the accepted steps the number n, the exact sum S of their times and the sum M of the times'
 -- magnitudes, both in counts of 2 ^ -1074.

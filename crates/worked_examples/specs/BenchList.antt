@@ -21,10 +21,16 @@ use Rattle.so3_blocks.specs.declared.TangentAnswer.the-variants.{Done as Tangen
 use Rattle.so3_blocks.specs.declared.ValidAnswer.{ValidAnswer}
 use Rattle.so3_blocks.specs.declared.ValidAnswer.the-variants.{Done as ValidAnswer·Done, Refused as ValidAnswer·Refused}
 use Rattle.so3_blocks.specs.declared.MatrixAnswer.{MatrixAnswer}
+use Rattle.so3_blocks.specs.declared.VectorAnswer.{VectorAnswer}
+use Rattle.so3_blocks.specs.declared.VectorAnswer.the-variants.{Done as VectorAnswer·Done, Refused as VectorAnswer·Refused}
 use Rattle.sgal3.specs.Elements as Elements
-use Rattle.sgal3.specs.Calls as Calls
-use Rattle.sgal3.specs.declared.Answer.{Answer}
-use Rattle.sgal3.specs.declared.Answer.the-variants.{Done, Refused}
+use Rattle.sgal3.specs.Tangents as Tangents
+use Rattle.sgal3_blocks.specs.Calls as Galilean
+use Rattle.sgal3_blocks.specs.declared.TangentAnswer.{TangentAnswer as GalileanTangentAnswer}
+use Rattle.sgal3_blocks.specs.declared.TangentAnswer.the-variants.{Done as GalileanTangentAnswer·Done, Refused as GalileanTangentAnswer·Refused}
+use Rattle.sgal3_composition.specs.Calls as Calls
+use Rattle.sgal3_composition.specs.declared.Answer.{Answer}
+use Rattle.sgal3_composition.specs.declared.Answer.the-variants.{Done, Refused}
 
 pub record Example : Type 0 where
   pub computed : List ℕ
@@ -60,6 +66,14 @@ abbrev tangent : TangentAnswer → List ℕ
 tangent (TangentAnswer·Done t) = point (t .theta)
 tangent (TangentAnswer·Refused r) = refusal r
 
+abbrev galileanTangent : GalileanTangentAnswer → List ℕ
+galileanTangent (GalileanTangentAnswer·Done t) = map (toBits binary64) (Tangents.coeffs t)
+galileanTangent (GalileanTangentAnswer·Refused r) = refusal r
+
+abbrev vector : VectorAnswer → List ℕ
+vector (VectorAnswer·Done p) = point p
+vector (VectorAnswer·Refused r) = refusal r
+
 -- 1 for yes
 abbrev valid : ValidAnswer → List ℕ
 valid (ValidAnswer·Done b) = cond b 1 0 ∷ []
@@ -94,6 +108,10 @@ along-x x = floats (x ∷ zero ∷ zero ∷ [])
 -- (w, 2 ^ -17, 0, 0)
 abbrev near : ℕ → List Float
 near w = floats (w ∷ 0x3ee0_0000_0000_0000 ∷ zero ∷ zero ∷ [])
+
+-- rho and nu zero, theta (x, 0, 0), s 0
+abbrev turn-x : ℕ → List Float
+turn-x x = floats (zero ∷ zero ∷ zero ∷ zero ∷ zero ∷ zero ∷ x ∷ zero ∷ zero ∷ zero ∷ [])
 
 abbrev p123 : Vec3
 p123 = record { x = ofBits binary64 one; y = ofBits binary64 two; z = ofBits binary64 three }
@@ -138,4 +156,21 @@ benchList =
     -- is_valid of (2, 0, 0, 0) with 1e-6, and with an infinite tolerance: no
     ∷ says (valid (Rotations.isValid (floats (two ∷ zero ∷ zero ∷ zero ∷ [])) tolerance)) (0 ∷ [])
     ∷ says (valid (Rotations.isValid (floats (two ∷ zero ∷ zero ∷ zero ∷ [])) (ofBits binary64 0x7ff0_0000_0000_0000))) (0 ∷ [])
+    -- exp of rho (1, 0, 0), nu (0, 2, 0), theta 0, s 3: t = (1, 3, 0); log returns the tangent
+    ∷ says (answer (Galilean.exp (floats (one ∷ zero ∷ zero ∷ zero ∷ two ∷ zero ∷ zero ∷ zero ∷ zero ∷ three ∷ []))))
+    (one ∷ three ∷ zero ∷ one ∷ zero ∷ zero ∷ zero ∷ zero ∷ two ∷ zero ∷ three ∷ [])
+    ∷ says (galileanTangent (Galilean.log (floats (one ∷ three ∷ zero ∷ one ∷ zero ∷ zero ∷ zero ∷ zero ∷ two ∷ zero ∷ three ∷ []))))
+    (one ∷ zero ∷ zero ∷ zero ∷ two ∷ zero ∷ zero ∷ zero ∷ zero ∷ three ∷ [])
+    -- SGal3's exp with the same thetas as SO3's
+    ∷ says (answer (Galilean.exp (turn-x 0x3ee0_0000_0000_0000)))
+    (zero ∷ zero ∷ zero ∷ 0x3fef_ffff_ffff_0000 ∷ 0x3ecf_ffff_ffff_0000 ∷ zero ∷ zero ∷ zero ∷ zero ∷ zero ∷ zero ∷ [])
+    ∷ says (answer (Galilean.exp (turn-x 0x3ef0_0000_0000_0000))) (4 ∷ [])
+    -- q = (1, 2 ^ -17, 0, 0): SGal3's log refuses 4, since it tests the squared theta of its own answer as well
+    ∷ says (galileanTangent (Galilean.log (floats (zero ∷ zero ∷ zero ∷ one ∷ 0x3ee0_0000_0000_0000 ∷ zero ∷ zero ∷ zero ∷ zero ∷ zero ∷ zero ∷ [])))) (4 ∷ [])
+    -- SGal3's is_valid of [0, 0, 0 | 2, 0, 0, 0 | 0, 0, 0 | 0] with 1e-6: yes; with tolerance 0: no
+    ∷ says (valid (Galilean.isValid (block two zero) tolerance)) (1 ∷ [])
+    ∷ says (valid (Galilean.isValid (block two zero) (ofBits binary64 zero))) (0 ∷ [])
+    -- log of A: rho = t - s/2 v; A acts on (1, 2, 3) by t + s v
+    ∷ says (galileanTangent (Galilean.log A)) (zero ∷ two ∷ three ∷ four ∷ zero ∷ zero ∷ zero ∷ zero ∷ zero ∷ half ∷ [])
+    ∷ says (vector (Galilean.act A (floats (one ∷ two ∷ three ∷ [])))) (four ∷ four ∷ 0x4018_0000_0000_0000 ∷ [])
     ∷ []

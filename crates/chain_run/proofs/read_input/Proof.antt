@@ -25,19 +25,19 @@ returns-2 c = search needs
 add-done : tie.Need-add-done Inv-loop μ-loop
 add-done c =
     let at-read = c .before .before .before .before .before .before in
-    let fits = counted _ _ _ (c .before .before .more .given .1) (at-read .read-once .ensures) in
+    let fits = counted _ _ _ (c .before .before .more .given .1) (at-read .read-once .ensures .0) in
     search needs
 
 loop-less : tie.Need-loop-less Inv-loop μ-loop
 loop-less c =
     let at-read = c .before .before .before .before .before .before in
-    let fits = counted _ _ _ (c .before .before .more .given .1) (at-read .read-once .ensures) in
+    let fits = counted _ _ _ (c .before .before .more .given .1) (at-read .read-once .ensures .0) in
     search needs
 
 loop-again : tie.Need-loop-again Inv-loop μ-loop
 loop-again c =
     let at-read = c .before .before .before .before .before .before in
-    let fits = counted _ _ _ (c .before .before .more .given .1) (at-read .read-once .ensures) in
+    let fits = counted _ _ _ (c .before .before .more .given .1) (at-read .read-once .ensures .0) in
     search needs
 
 returns-3 : tie.Need-returns-3 Inv-loop μ-loop

@@ -4,7 +4,7 @@ use mathlib.Core.Path.{_≡_, sym, _∙_}
 use native.Mathlib.Omega.{arith}
 use borrow.Author.Needs.{needs}
 use lib.ListN.{length}
-use Rattle.sgal3.specs.Calls as Calls
+use Rattle.sgal3_composition.specs.Calls as Calls
 use Rattle.handset.specs.Blocks as Blocks
 use Rattle.handset.proofs.ByteBlocks.{next, end}
 use Rattle.handset.proofs.chain_blocks.Statement.{statement}

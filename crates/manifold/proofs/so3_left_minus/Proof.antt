@@ -8,9 +8,10 @@ returns : tie.Need-returns
 unfolding Rotations.leftMinus
 returns c =
     rw (
-      ← c .before .so3-left-between .ensures,
+      ← c .before .before .inverse .ensures,
+      ← c .before .compose .ensures,
       ← c .log .ensures,
     )
 
 pub so3-left-minus-spec : {M : Type 1} → statement M
-so3-left-minus-spec = tie.close (tie.spec (λ c κs. search needs) (λ c κs. search needs) returns)
+so3-left-minus-spec = tie.close (tie.spec (λ c κs. search needs) (λ c κs. search needs) (λ c κs. search needs) returns)

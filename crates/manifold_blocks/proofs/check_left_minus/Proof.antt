@@ -8,9 +8,10 @@ returns : tie.Need-returns
 unfolding Turns.checkLeftMinus
 returns c =
     rw (
-      ← c .before .before .before .before .before .check-elements .ensures,
-      c .before .before .before .a .given .1,
-      ← c .before .so3-left-between .ensures,
+      ← c .before .before .before .before .before .before .check-elements .ensures,
+      c .before .before .before .before .a .given .1,
+      ← c .before .before .inverse .ensures,
+      ← c .before .compose .ensures,
       ← c .within-minus .ensures,
     )
 
@@ -28,6 +29,7 @@ check-left-minus-spec =
     (tie.spec
     (λ c κs. search needs)
     (λ c. search needs)
+    (λ c κs. search needs)
     (λ c κs. search needs)
     (λ c κs. search needs)
     (λ c. search needs)

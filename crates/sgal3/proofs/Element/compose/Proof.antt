@@ -17,9 +17,9 @@ returns c = rw (
   c .before .before .before .before .before .add .ensures,
   c .before .before .before .before .before .before .rotate .ensures,
   c .before .before .before .before .before .before .before .mul .ensures,
-  c .before .before .before .before .before .before .before .before .unit-rotation2 .ensures,
-  c .before .before .before .before .before .before .before .before .before .before .unit-rotation .ensures,
-) (unfold Elements.compose Elements.unitRotation Quaternions.mul Quaternions.rotate Vectors.add Vectors.scale Law.compose Law.composeAt in refl)
+  c .before .before .before .before .before .before .before .before .rotation-quaternion2 .ensures,
+  c .before .before .before .before .before .before .before .before .before .before .rotation-quaternion .ensures,
+) (unfold Elements.compose Elements.rotationQuaternion Quaternions.mul Quaternions.rotate Vectors.add Vectors.scale Law.compose Law.composeAt in refl)
 
 pub compose-spec : {M : Type 1} → statement M
 compose-spec =

@@ -19,8 +19,8 @@ returns c = rw (
   c .before .before .before .before .before .scale .ensures,
   c .before .before .before .before .before .before .before .normalize .ensures,
   c .before .before .before .before .before .before .before .before .conjugate .ensures,
-  c .before .before .before .before .before .before .before .before .before .unit-rotation .ensures,
-) (unfold Elements.inverse Elements.unitRotation Quaternions.conjugate Quaternions.normalize Quaternions.rotate Vectors.sub Vectors.scale Vectors.neg Rotation.inverse Rotation.unitQuaternion Law.inverse Law.inverseAt in refl)
+  c .before .before .before .before .before .before .before .before .before .rotation-quaternion .ensures,
+) (unfold Elements.inverse Elements.rotationQuaternion Quaternions.conjugate Quaternions.normalize Quaternions.rotate Vectors.sub Vectors.scale Vectors.neg Rotation.inverse Rotation.unitQuaternion Law.inverse Law.inverseAt in refl)
 
 pub inverse-spec : {M : Type 1} → statement M
 inverse-spec =

@@ -1,0 +1,124 @@
+// The lines of the scope's bench list that are not marked as proved, run: what each call came to, 0 for an answer, else the number
+// of the refusal; of is_valid 1 for yes and 0 for no.
+use libc::STDOUT_FILENO;
+use sgal3_composition::Answer;
+use so3_blocks::ValidAnswer;
+ghost use mathlib.Core.Path.{_≡_};
+ghost use Rattle.bench_lines.specs.Numbers as Numbers;
+
+fn element_number(a: Answer) -> u64
+    ensures { λ r. ⌜ r ≡ Numbers.element a ⌝ }
+{
+    match a {
+        Answer::Done(_) => 0,
+        Answer::Refused(r) => r.number() as u64,
+    }
+}
+
+fn tangent_number(a: sgal3_blocks::TangentAnswer) -> u64
+    ensures { λ r. ⌜ r ≡ Numbers.tangent a ⌝ }
+{
+    match a {
+        sgal3_blocks::TangentAnswer::Done(_) => 0,
+        sgal3_blocks::TangentAnswer::Refused(r) => r.number() as u64,
+    }
+}
+
+fn rotation_number(a: so3_blocks::Answer) -> u64
+    ensures { λ r. ⌜ r ≡ Numbers.rotation a ⌝ }
+{
+    match a {
+        so3_blocks::Answer::Done(_) => 0,
+        so3_blocks::Answer::Refused(r) => r.number() as u64,
+    }
+}
+
+fn rotation_tangent_number(a: so3_blocks::TangentAnswer) -> u64
+    ensures { λ r. ⌜ r ≡ Numbers.rotationTangent a ⌝ }
+{
+    match a {
+        so3_blocks::TangentAnswer::Done(_) => 0,
+        so3_blocks::TangentAnswer::Refused(r) => r.number() as u64,
+    }
+}
+
+fn valid_number(a: ValidAnswer) -> u64
+    ensures { λ r. ⌜ r ≡ Numbers.valid a ⌝ }
+{
+    match a {
+        ValidAnswer::Done(b) => if b { 1 } else { 0 },
+        ValidAnswer::Refused(r) => r.number() as u64,
+    }
+}
+
+fn main() {
+    let theta = [1.52587890625e-5, 0.0, 0.0];
+    io::write_all(STDOUT_FILENO, b"SO3 exp of theta (2^-16, 0, 0): ");
+    io::print_decimal(STDOUT_FILENO, rotation_number(so3_blocks::exp(&theta)));
+    let tangent = [
+        0.0,
+        0.0,
+        0.0,
+        0.0,
+        0.0,
+        0.0,
+        1.52587890625e-5,
+        0.0,
+        0.0,
+        0.0,
+    ];
+    io::write_all(STDOUT_FILENO, b"\nSGal3 exp of theta (2^-16, 0, 0): ");
+    io::print_decimal(STDOUT_FILENO, element_number(sgal3_blocks::exp(&tangent)));
+    let near = [1.0, 7.62939453125e-6, 0.0, 0.0];
+    io::write_all(STDOUT_FILENO, b"\nSO3 log of (1, 2^-17, 0, 0): ");
+    io::print_decimal(
+        STDOUT_FILENO,
+        rotation_tangent_number(so3_blocks::log(&near)),
+    );
+    let turned = [
+        0.0,
+        0.0,
+        0.0,
+        1.0,
+        7.62939453125e-6,
+        0.0,
+        0.0,
+        0.0,
+        0.0,
+        0.0,
+        0.0,
+    ];
+    io::write_all(STDOUT_FILENO, b"\nSGal3 log of (1, 2^-17, 0, 0): ");
+    io::print_decimal(STDOUT_FILENO, tangent_number(sgal3_blocks::log(&turned)));
+    let zeros = [0.0, 0.0, 0.0, 0.0, 0.0, 0.0, 0.0, 0.0, 0.0, 0.0, 0.0];
+    io::write_all(STDOUT_FILENO, b"\ninverse, all four zero: ");
+    io::print_decimal(
+        STDOUT_FILENO,
+        element_number(sgal3_composition::inverse(&zeros)),
+    );
+    let nan = 0.0 / 0.0;
+    let bad = [0.0, 0.0, 0.0, 2.0, 0.0, 0.0, 0.0, 0.0, 0.0, 0.0, nan];
+    io::write_all(STDOUT_FILENO, b"\ninverse, NaN time and norm 2: ");
+    io::print_decimal(
+        STDOUT_FILENO,
+        element_number(sgal3_composition::inverse(&bad)),
+    );
+    let two = [0.0, 0.0, 0.0, 2.0, 0.0, 0.0, 0.0, 0.0, 0.0, 0.0, 0.0];
+    io::write_all(STDOUT_FILENO, b"\nSGal3 is_valid of w = 2 with 1e-6: ");
+    io::print_decimal(
+        STDOUT_FILENO,
+        valid_number(sgal3_blocks::is_valid(&two, 1e-6)),
+    );
+    io::write_all(STDOUT_FILENO, b"\nSGal3 is_valid of w = 2 with 0: ");
+    io::print_decimal(
+        STDOUT_FILENO,
+        valid_number(sgal3_blocks::is_valid(&two, 0.0)),
+    );
+    let double = [2.0, 0.0, 0.0, 0.0];
+    io::write_all(STDOUT_FILENO, b"\nSO3 is_valid of w = 2 with 1e-6: ");
+    io::print_decimal(
+        STDOUT_FILENO,
+        valid_number(so3_blocks::is_valid(&double, 1e-6)),
+    );
+    io::write_all(STDOUT_FILENO, b"\n");
+}

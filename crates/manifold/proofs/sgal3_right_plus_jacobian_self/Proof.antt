@@ -1,0 +1,17 @@
+-- `manifold::sgal3_right_plus_jacobian_self` meets its contract. Assumes nothing.
+use borrow.Author.Needs.{needs}
+use Rattle.manifold.specs.Galilean as Galilean
+use Rattle.manifold.proofs.sgal3_right_plus_jacobian_self.Statement.{statement}
+use Rattle.manifold.proofs.sgal3_right_plus_jacobian_self.Tie as tie
+
+returns : tie.Need-returns
+unfolding Galilean.rightPlusJacobianSelf
+returns c =
+    rw (
+      ← c .before .exp .ensures,
+      ← c .compose-jacobian-self .ensures,
+    )
+
+pub sgal3-right-plus-jacobian-self-spec : {M : Type 1} → statement M
+sgal3-right-plus-jacobian-self-spec =
+    tie.close (tie.spec (λ c κs. search needs) (λ c κs. search needs) returns)

@@ -1,0 +1,30 @@
+-- `sgal3_matrices::small_adj` meets its contract. Assumes nothing.
+use mathlib.Core.Path.{refl}
+use borrow.Author.Needs.{needs}
+use Rattle.sgal3_matrices.specs.Matrices as Matrices
+use Rattle.linear.specs.Matrices as Linear
+use Rattle.law.specs.Galilean as Law
+use Rattle.sgal3_matrices.proofs.small_adj.Statement.{statement}
+use Rattle.sgal3_matrices.proofs.small_adj.Tie as tie
+
+returns : tie.Need-returns
+returns c = rw (
+  c .by-blocks .ensures,
+  c .before .scale .ensures,
+  c .before .before .before .identity .ensures,
+  c .before .before .before .before .hat3 .ensures,
+  c .before .before .before .before .before .hat2 .ensures,
+  c .before .before .before .before .before .before .hat .ensures,
+) (unfold Matrices.smallAdj Matrices.byBlocks Linear.hat Linear.identity Linear.scale Law.smallAdj in refl)
+
+pub small-adj-spec : {M : Type 1} → statement M
+small-adj-spec =
+    tie.close
+    (tie.spec
+    (λ c κs. search needs)
+    (λ c κs. search needs)
+    (λ c κs. search needs)
+    (λ c κs. search needs)
+    (λ c κs. search needs)
+    (λ c κs. search needs)
+    returns)

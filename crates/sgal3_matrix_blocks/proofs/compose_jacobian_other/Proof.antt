@@ -1,0 +1,37 @@
+-- `sgal3_matrix_blocks::compose_jacobian_other` meets its contract. Assumes nothing.
+use borrow.Author.Needs.{needs}
+use Rattle.sgal3_matrix_blocks.specs.Calls as Calls
+use Rattle.sgal3_matrix_blocks.proofs.compose_jacobian_other.Statement.{statement}
+use Rattle.sgal3_matrix_blocks.proofs.compose_jacobian_other.Tie as tie
+
+returns : tie.Need-returns
+unfolding Calls.composeJacobianOther
+returns c =
+    rw (
+      ← c .before .before .before .before .check-elements .ensures,
+      c .before .before .enum-told .given .1,
+      ← c .before .jacobian-identity .ensures,
+      ← c .matrix10-answer .ensures,
+    )
+
+returns-2 : tie.Need-returns-2
+unfolding Calls.composeJacobianOther
+returns-2 c =
+    rw (
+      ← c .before .before .before .before .check-elements .ensures,
+      c .before .before .r .given .1,
+      ← c .refused-matrix10 .ensures,
+    )
+
+pub compose-jacobian-other-spec : {M : Type 1} → statement M
+compose-jacobian-other-spec =
+    tie.close
+    (tie.spec
+    (λ c κs. search needs)
+    (λ c. search needs)
+    (λ c κs. search needs)
+    (λ c κs. search needs)
+    (λ c. search needs)
+    (λ c κs. search needs)
+    returns
+    returns-2)
