@@ -1,17 +1,25 @@
 # make run FILE=..  the program `chain` on a file of element blocks: examples/two-steps.bin unless another is named
 # make test         everything; the last line is rt's verdict
 # make lib          the static library and its header, in target/lib
-# make compare      the square root against the machine's, on fresh patterns: SEED=.. COUNT=..
+# make compare      every call, the C entries and the square root beside the Rust, on fresh random requests: SEED=.. and
+#                   COUNT=.. or SECONDS=..; APEX_SRC=.. names the folder of the Rust source, if it is not ../shared
 # make bench        times: the square root, and the three calls beside the same in plain Rust
 # make vectors      the stored vectors of the square root anew
+# make sample       the stored requests of the program `conformance` and the reference's answers anew
 # make cases        the stored inputs of the programs `chain` and `chain_cases`, and what they have to print, anew
 FILE = examples/two-steps.bin
 SEED = 1
-COUNT = 1000000
+COUNT = 10000000
+SECONDS =
+SHELL = /bin/bash
 CARGO = cargo --quiet --offline
 NUMBER = --target-dir target/cargo --manifest-path rust/number/Cargo.toml
 VECTORS = crates/sqrt_vectors/data/vectors
 CASES = $(CARGO) run --release --target-dir target/cargo --manifest-path rust/cases/Cargo.toml --
+SAMPLE = crates/conformance/stdin crates/conformance/stdout
+REFERENCE = --release --target-dir target/cargo --manifest-path rust/reference/Cargo.toml
+APEX_SRC ?= ../shared/docs/src/crates/apex-manifolds/src
+export APEX_SRC := $(abspath $(APEX_SRC))
 WARNINGS = -Wall -Wextra -Werror -pedantic
 
 # A part that wants a tool which is missing says so, and fails in CI.
@@ -19,15 +27,27 @@ WITHOUT = { echo "NOT RUN: $@: there is no $(1) here"; [ "$$CI" != true ]; }
 # What rt prints is shown only where it fails.
 QUIETLY = mkdir -p target && $(1) > target/$@.log 2>&1 || { cat target/$@.log; exit 1; }
 
-.PHONY: run test toolchain-check format-check lib test-rust test-c vectors-check compare bench bench-sqrt bench-handset vectors cases cases-check number-lib
+# What is needed to run the Rust source itself.
+WITH_SOURCE = if ! command -v cargo > /dev/null; then $(call WITHOUT,cargo); \
+	elif ! [ -d "$$APEX_SRC" ]; then $(call WITHOUT,Rust source (APEX_SRC names its folder)); else $(1); fi
+
+.PHONY: run test test-built toolchain-check format-check lib test-rust test-c vectors-check cases-check sample-check \
+	test-reference compare compare-sqrt compare-calls compare-entries valgrind-entries conformance bench bench-sqrt \
+	bench-handset vectors cases sample number-lib
 .NOTPARALLEL:
 
 run:
 	@$(call QUIETLY,rt check chain)
 	@target/bin/chain < $(FILE)
 
-test: toolchain-check format-check test-rust test-c vectors-check cases-check compare
-	rt ci
+# What wants a program or a library that is built comes after rt ci: so each is proved once, in this very run. Its verdict
+# is printed again as the last line, if the rest passes too.
+test: toolchain-check format-check vectors-check cases-check sample-check test-reference
+	@exec 3>&1; verdict=$$(set -o pipefail; rt ci | while IFS= read -r line; do printf '%s\n' "$$line" >&3; \
+	    printf '%s\n' "$$line"; done | tail -n 1) && \
+	$(MAKE) --no-print-directory test-built COUNT=5000000 && printf '%s\n' "$$verdict"
+
+test-built: test-rust test-c compare valgrind-entries
 
 # The definitions that the proofs rest on are the toolchain's: another one is another claim.
 toolchain-check:
@@ -73,13 +93,39 @@ cases-check:
 	    diff -r -x src -x proofs target/cases/chain_cases crates/chain_cases; \
 	else $(call WITHOUT,cargo); fi
 
+sample-check:
+	@$(call WITH_SOURCE,mkdir -p target && $(CARGO) run $(REFERENCE) --bin sample -- target/sample-requests target/sample-answers \
+	    > target/sample-counts && cmp target/sample-requests $(word 1,$(SAMPLE)) && cmp target/sample-answers $(word 2,$(SAMPLE)))
+
+# The Rust source answers the bench list, and the reading of the refusals agrees with it.
+test-reference:
+	@$(call WITH_SOURCE,$(CARGO) test $(REFERENCE) --workspace --exclude entries)
+
 number-lib:
 	@$(call QUIETLY,rt staticlib number_export)
 
-compare: number-lib
+conformance:
+	@$(call QUIETLY,rt check conformance)
+
+compare: compare-sqrt compare-entries compare-calls
+
+compare-sqrt: number-lib
 	@if command -v cargo > /dev/null; then \
-	    $(CARGO) run --release $(NUMBER) --bin sqrt_compare -- --seed $(SEED) --count $(COUNT); \
+	    $(CARGO) run --release $(NUMBER) --bin sqrt_compare -- --seed $(SEED) --count 1000000; \
 	else $(call WITHOUT,cargo); fi
+
+compare-calls: conformance
+	@$(call WITH_SOURCE,$(CARGO) run $(REFERENCE) --bin compare -- target/bin/conformance --seed $(SEED) \
+	    $(if $(SECONDS),--seconds $(SECONDS),--count $(COUNT)))
+
+compare-entries: lib
+	@$(call WITH_SOURCE,$(CARGO) run $(REFERENCE) --bin entries -- --seed $(SEED) --count 1000000)
+
+# That no byte beside a buffer is touched.
+valgrind-entries: lib
+	@if ! command -v valgrind > /dev/null; then $(call WITHOUT,valgrind); else \
+	    $(call WITH_SOURCE,$(CARGO) build $(REFERENCE) --bin entries && \
+	    valgrind --quiet --leak-check=full --error-exitcode=1 target/cargo/release/entries --seed $(SEED) --count 20000); fi
 
 bench: bench-sqrt bench-handset
 
@@ -91,6 +137,9 @@ bench-handset: lib
 
 vectors:
 	@$(CARGO) run --release $(NUMBER) --bin sqrt_vectors > $(VECTORS)
+
+sample:
+	@$(CARGO) run $(REFERENCE) --bin sample -- $(SAMPLE)
 
 cases:
 	@$(CASES) crates

@@ -1,5 +1,5 @@
-// Rotations SO(3): elements and tangents by value, and the calls on blocks (so3.rs). A block's four values are kept as given;
-// each operation normalises them first.
+// Rotations SO(3): elements and tangents by value (so3.rs). An element's four values are kept as given; each operation
+// normalises them first.
 use linear::Mat3;
 use linear::Quaternion;
 use linear::Vec3;

@@ -1,0 +1,13 @@
+-- `outcomes::put_check` meets its contract. Assumes nothing.
+use borrow.Author.Needs.{needs}
+use Rattle.outcomes.specs.Outcomes as Outcomes
+use Rattle.outcomes.proofs.Stores.{header-count}
+use Rattle.outcomes.proofs.put_check.Statement.{statement}
+use Rattle.outcomes.proofs.put_check.Tie as tie
+
+returns : tie.Need-returns
+unfolding Outcomes.ofCheck
+returns c = (header-count _ _, c .put-header .ensures)
+
+pub put-check-spec : {M : Type 1} → statement M
+put-check-spec = tie.close (tie.spec (λ c κs. search needs) returns)

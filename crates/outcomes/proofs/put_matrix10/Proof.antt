@@ -1,0 +1,16 @@
+-- `outcomes::put_matrix10` meets its contract: the header, then the rows. Assumes nothing.
+use borrow.Author.Needs.{needs}
+use Rattle.outcomes.specs.Outcomes as Outcomes
+use Rattle.outcomes.proofs.Stores.{matrix10-count, after-header}
+use Rattle.outcomes.proofs.put_matrix10.Statement.{statement}
+use Rattle.outcomes.proofs.put_matrix10.Tie as tie
+
+returns : tie.Need-returns
+unfolding Outcomes.ofMatrix10
+returns c = (
+  matrix10-count _ (c .put-rows .ensures .0),
+  rw (c .put-rows .ensures .1, c .before .before .put-header .ensures) (after-header _ _ _ _),
+)
+
+pub put-matrix10-spec : {M : Type 1} → statement M
+put-matrix10-spec = tie.close (tie.spec (λ c κs. search needs) (λ c κs. search needs) returns)

@@ -1,0 +1,13 @@
+-- `outcomes::put_word` meets its contract: the header, then the word. Assumes nothing.
+use borrow.Author.Needs.{needs}
+use Rattle.outcomes.specs.Outcomes as Outcomes
+use Rattle.outcomes.proofs.Stores.{word-count, after-header}
+use Rattle.outcomes.proofs.put_word.Statement.{statement}
+use Rattle.outcomes.proofs.put_word.Tie as tie
+
+returns : tie.Need-returns
+unfolding Outcomes.ofWord
+returns c = (word-count _, rw (c .put-word .ensures, c .before .before .put-header .ensures) (after-header _ _ _ _))
+
+pub put-word-spec : {M : Type 1} → statement M
+put-word-spec = tie.close (tie.spec (λ c κs. search needs) (λ c κs. search needs) returns)
