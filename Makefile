@@ -3,7 +3,7 @@
 # make lib          the static library and its header, in target/lib
 # make compare      every call, the C entries and the square root beside the Rust, on fresh random requests: SEED=.. and
 #                   COUNT=.. or SECONDS=..; APEX_SRC=.. names the folder of the Rust source, if it is not ../shared
-# make bench        times: the square root, and the three calls beside the same in plain Rust
+# make bench        times: the square root, and the calls beside the Rust source and plain Rust
 # make vectors      the stored vectors of the square root anew
 # make sample       the stored requests of the program `conformance` and the reference's answers anew
 # make cases        the stored inputs of the programs `chain` and `chain_cases`, and what they have to print, anew
@@ -22,6 +22,13 @@ APEX_SRC ?= ../shared/docs/src/crates/apex-manifolds/src
 export APEX_SRC := $(abspath $(APEX_SRC))
 WARNINGS = -Wall -Wextra -Werror -pedantic
 
+# A check copies all that its crate depends on into a temporary folder: in memory, where there is room, that takes a tenth of the time.
+# Programs are run from there too.
+IN_MEMORY = [ -w /dev/shm ] && df -Pk /dev/shm | awk 'NR == 2 { exit $$4 < 2000000 }' && ! grep -q ' /dev/shm .*noexec' /proc/mounts
+ifndef TMPDIR
+export TMPDIR := $(shell $(IN_MEMORY) && echo /dev/shm || echo /tmp)
+endif
+
 # A part that wants a tool which is missing says so, and fails in CI.
 WITHOUT = { echo "NOT RUN: $@: there is no $(1) here"; [ "$$CI" != true ]; }
 # What rt prints is shown only where it fails.
@@ -33,7 +40,7 @@ WITH_SOURCE = if ! command -v cargo > /dev/null; then $(call WITHOUT,cargo); \
 
 .PHONY: run test test-built toolchain-check format-check lib test-rust test-c vectors-check cases-check sample-check \
 	test-reference compare compare-sqrt compare-calls compare-entries valgrind-entries conformance bench bench-sqrt \
-	bench-handset vectors cases sample number-lib
+	bench-handset requests-lib vectors cases sample number-lib
 .NOTPARALLEL:
 
 run:
@@ -58,7 +65,9 @@ toolchain-check:
 format-check:
 	rt fmt --check
 
+# rt staticlib proves one crate at a time, and rt check as many as there are processors.
 lib:
+	@$(call QUIETLY,rt check sgal3_composition words)
 	@$(call QUIETLY,rt staticlib handset)
 	@mkdir -p target/lib && cp target/staticlib/libhandset.a include/handset.h target/lib/
 
@@ -132,8 +141,12 @@ bench: bench-sqrt bench-handset
 bench-sqrt: number-lib
 	@$(CARGO) run --release $(NUMBER) --bin sqrt_bench
 
-bench-handset: lib
+bench-handset: lib requests-lib
 	@$(CARGO) run --release --target-dir target/cargo --manifest-path rust/bench/Cargo.toml
+
+requests-lib:
+	@$(call QUIETLY,rt check requests)
+	@$(call QUIETLY,rt staticlib requests_export)
 
 vectors:
 	@$(CARGO) run --release $(NUMBER) --bin sqrt_vectors > $(VECTORS)

@@ -2,16 +2,16 @@
 use Prim.Native.Nat.{ℕ}
 use mathlib.Core.Bool.{cond}
 use Rattle.checks.specs.Refusals.{number}
-use Rattle.so3_blocks.specs.declared.Answer.{Answer as Rotation}
-use Rattle.so3_blocks.specs.declared.Answer.the-variants.{Done as Rotation·Done, Refused as Rotation·Refused}
-use Rattle.so3_blocks.specs.declared.TangentAnswer.{TangentAnswer as RotationTangent}
-use Rattle.so3_blocks.specs.declared.TangentAnswer.the-variants.{Done as RotationTangent·Done, Refused as RotationTangent·Refused}
-use Rattle.so3_blocks.specs.declared.ValidAnswer.{ValidAnswer}
-use Rattle.so3_blocks.specs.declared.ValidAnswer.the-variants.{Done as Valid·Done, Refused as Valid·Refused}
+use Rattle.so3_answers.specs.declared.Answer.{Answer as Rotation}
+use Rattle.so3_answers.specs.declared.Answer.the-variants.{Done as Rotation·Done, Refused as Rotation·Refused}
+use Rattle.so3_answers.specs.declared.TangentAnswer.{TangentAnswer as RotationTangent}
+use Rattle.so3_answers.specs.declared.TangentAnswer.the-variants.{Done as RotationTangent·Done, Refused as RotationTangent·Refused}
+use Rattle.so3_answers.specs.declared.ValidAnswer.{ValidAnswer}
+use Rattle.so3_answers.specs.declared.ValidAnswer.the-variants.{Done as Valid·Done, Refused as Valid·Refused}
 use Rattle.sgal3_composition.specs.declared.Answer.{Answer}
 use Rattle.sgal3_composition.specs.declared.Answer.the-variants.{Done as Answer·Done, Refused as Answer·Refused}
-use Rattle.sgal3_blocks.specs.declared.TangentAnswer.{TangentAnswer}
-use Rattle.sgal3_blocks.specs.declared.TangentAnswer.the-variants.{Done as Tangent·Done, Refused as Tangent·Refused}
+use Rattle.sgal3_answers.specs.declared.TangentAnswer.{TangentAnswer}
+use Rattle.sgal3_answers.specs.declared.TangentAnswer.the-variants.{Done as Tangent·Done, Refused as Tangent·Refused}
 
 unfoldable pub element : Answer → ℕ
 element (Answer·Done a) = 0

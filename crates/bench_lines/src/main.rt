@@ -2,7 +2,7 @@
 // of the refusal; of is_valid 1 for yes and 0 for no.
 use libc::STDOUT_FILENO;
 use sgal3_composition::Answer;
-use so3_blocks::ValidAnswer;
+use so3_answers::ValidAnswer;
 ghost use mathlib.Core.Path.{_≡_};
 ghost use Rattle.bench_lines.specs.Numbers as Numbers;
 
@@ -15,30 +15,30 @@ fn element_number(a: Answer) -> u64
     }
 }
 
-fn tangent_number(a: sgal3_blocks::TangentAnswer) -> u64
+fn tangent_number(a: sgal3_answers::TangentAnswer) -> u64
     ensures { λ r. ⌜ r ≡ Numbers.tangent a ⌝ }
 {
     match a {
-        sgal3_blocks::TangentAnswer::Done(_) => 0,
-        sgal3_blocks::TangentAnswer::Refused(r) => r.number() as u64,
+        sgal3_answers::TangentAnswer::Done(_) => 0,
+        sgal3_answers::TangentAnswer::Refused(r) => r.number() as u64,
     }
 }
 
-fn rotation_number(a: so3_blocks::Answer) -> u64
+fn rotation_number(a: so3_answers::Answer) -> u64
     ensures { λ r. ⌜ r ≡ Numbers.rotation a ⌝ }
 {
     match a {
-        so3_blocks::Answer::Done(_) => 0,
-        so3_blocks::Answer::Refused(r) => r.number() as u64,
+        so3_answers::Answer::Done(_) => 0,
+        so3_answers::Answer::Refused(r) => r.number() as u64,
     }
 }
 
-fn rotation_tangent_number(a: so3_blocks::TangentAnswer) -> u64
+fn rotation_tangent_number(a: so3_answers::TangentAnswer) -> u64
     ensures { λ r. ⌜ r ≡ Numbers.rotationTangent a ⌝ }
 {
     match a {
-        so3_blocks::TangentAnswer::Done(_) => 0,
-        so3_blocks::TangentAnswer::Refused(r) => r.number() as u64,
+        so3_answers::TangentAnswer::Done(_) => 0,
+        so3_answers::TangentAnswer::Refused(r) => r.number() as u64,
     }
 }
 
@@ -54,7 +54,10 @@ fn valid_number(a: ValidAnswer) -> u64
 fn main() {
     let theta = [1.52587890625e-5, 0.0, 0.0];
     io::write_all(STDOUT_FILENO, b"SO3 exp of theta (2^-16, 0, 0): ");
-    io::print_decimal(STDOUT_FILENO, rotation_number(so3_blocks::exp(&theta)));
+    io::print_decimal(
+        STDOUT_FILENO,
+        rotation_number(so3_tangent_blocks::exp(&theta)),
+    );
     let tangent = [
         0.0,
         0.0,

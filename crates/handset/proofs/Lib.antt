@@ -1,3 +1,4 @@
 pub mod ByteBlocks
 pub mod Stored
 pub mod Outputs
+pub mod Chains

@@ -1,17 +1,22 @@
 -- What an output block of the right length, and of another, makes of an answer. Assumes nothing.
-use Prim.Native.Nat.{ℕ, _≤_}
+use Prim.Native.Nat.{ℕ, _≤_, _<_}
 use mathlib.Core.Path.{_≡_, refl, sym, ap, _∙_}
 use mathlib.Core.List.{List}
 use native.Mathlib.Omega.{arith}
 use borrow.Author.Tests.{eq-eqb, ne-eqb}
 use lib.ListN.{length}
 use Rattle.checks.specs.Refusals as Refusals
+use Rattle.checks.specs.Checks.{tolerance, checkParamBlock}
+use Rattle.checks.specs.declared.Check.the-variants.{Passed, Refused as Check·Refused}
+use Rattle.sgal3.specs.Elements as Elements
 use Rattle.checks.specs.declared.Refusal.{Refusal}
 use Rattle.checks.specs.declared.Refusal.the-variants.{Length, NotFinite, NotUnit, Turn, Overflow}
 use Rattle.checks.proofs.Order.{Picked, left, right, picked}
 use Rattle.sgal3_composition.specs.Calls as Calls
 use Rattle.sgal3_composition.specs.declared.Answer.{Answer}
 use Rattle.sgal3_composition.specs.declared.Answer.the-variants.{Done, Refused}
+use Rattle.handset.specs.Blocks as Blocks
+use Rattle.handset.proofs.ByteBlocks.{passed, refused}
 use Rattle.handset.specs.Entries.{number, written, Answered, into}
 
 pub right-length : (out : List ℕ) (a : Answer) → length out ≡ 88 → into out a ≡ a
@@ -67,3 +72,79 @@ taken-output out after a b r e p h =
       output = h .1 ∙ ap (λ (o : Answer). written o out) q;
       untouched = λ n. h .1 ∙ untouched a out (λ z. n (h .0 ∙ z));
     }
+
+-- ---- of the right length: an input of another
+pub block-of : (s : List ℕ) → length s ≡ 88 → Blocks.checkBlock s ≡ Calls.checkElement (Blocks.valuesAt 11 s 0) tolerance
+unfolding Blocks.checkBlock
+block-of s e = rw (eq-eqb _ _ e)
+
+pub no-block : (s : List ℕ) → (length s ≡ 88 → ⊥) → Blocks.checkBlock s ≡ Refused (Length 88 (length s))
+unfolding Blocks.checkBlock
+no-block s e = rw (ne-eqb _ _ e)
+
+pub refused-input : (out : List ℕ) (b : Answer) → length out ≡ 88 → number b ≡ 1 → written b out ≡ out → Answered (into out b) out out 1
+refused-input out b e n w = taken-output out out b b 1 e refl (sym n, sym w)
+
+pub length-number : (n m : ℕ) → number (Refused (Length n m)) ≡ 1
+unfolding number Refusals.number
+length-number n m = refl
+
+pub length-written : (n m : ℕ) (out : List ℕ) → written (Refused (Length n m)) out ≡ out
+unfolding written
+length-written n m out = refl
+
+pub refused-block : (s out : List ℕ) → length out ≡ 88 → (length s ≡ 88 → ⊥) → Answered (into out (Calls.inverseAnswer (Blocks.checkBlock s))) out out 1
+unfolding Calls.inverseAnswer
+refused-block s out o e = rw (no-block s e) (refused-input out _ o (length-number 88 (length s)) (length-written 88 (length s) out))
+
+-- the left block of a compose, and the right one
+left-number : (n m : ℕ) (b : Answer) → number (Calls.composeAnswers (Refused (Length n m)) b) ≡ 1
+unfolding Calls.composeAnswers Calls.firstRefusal
+left-number n m (Done e) = length-number n m
+left-number n m (Refused r) = go (picked (Length n m) r)
+  where
+    none : (q : Refusal) → Refusals.number q < Refusals.number (Length n m) → ⊥
+    none (Length a b) h = unfold Refusals.number in omega arith
+    none NotFinite h = unfold Refusals.number in omega arith
+    none (NotUnit x) h = unfold Refusals.number in omega arith
+    none Turn h = unfold Refusals.number in omega arith
+    none Overflow h = unfold Refusals.number in omega arith
+
+    go : Picked (Length n m) r → number (Refused (Refusals.earlier (Length n m) r)) ≡ 1
+    go (left l e) = ap (λ (q : Refusal). number (Refused q)) e ∙ length-number n m
+    go (right l e) = absurd (none r l)
+
+left-written : (n m : ℕ) (b : Answer) (out : List ℕ) → written (Calls.composeAnswers (Refused (Length n m)) b) out ≡ out
+unfolding Calls.composeAnswers Calls.firstRefusal written
+left-written n m (Done e) out = refl
+left-written n m (Refused r) out = refl
+
+right-first : (a : Answer) (r : Refusal) → Calls.composeAnswers a (Refused r) ≡ Calls.firstRefusal a (Refused r)
+unfolding Calls.composeAnswers Calls.firstRefusal
+right-first (Done e) r = refl
+right-first (Refused q) r = refl
+
+pub refused-left : (s out : List ℕ) (b : Answer) → length out ≡ 88 → (length s ≡ 88 → ⊥) → Answered (into out (Calls.composeAnswers (Blocks.checkBlock s) b)) out out 1
+refused-left s out b o e = rw (no-block s e) (refused-input out _ o (left-number 88 (length s) b) (left-written 88 (length s) b out))
+
+pub refused-right : (s out : List ℕ) (a : Answer) → length out ≡ 88 → (length s ≡ 88 → ⊥) → Answered (into out (Calls.composeAnswers a (Blocks.checkBlock s))) out out 1
+refused-right s out a o e = rw (no-block s e, right-first) (refused-input out _ o (first-number a 88 (length s)) (first-written a 88 (length s) out))
+
+-- ---- the inverse, and a refusal's number
+pub inverse-passed : (s : List ℕ) → length s ≡ 88 → checkParamBlock (Blocks.valuesAt 11 s 0) 11 3 tolerance ≡ Passed
+    → Calls.elementAnswer (Elements.inverse (Elements.elementOf (Blocks.valuesAt 11 s 0))) ≡ Calls.inverseAnswer (Blocks.checkBlock s)
+unfolding Calls.inverseAnswer
+inverse-passed s e p = rw (block-of s e, passed (Blocks.valuesAt 11 s 0) tolerance p)
+
+pub inverse-refused : (s : List ℕ) (q : Refusal) → length s ≡ 88 → checkParamBlock (Blocks.valuesAt 11 s 0) 11 3 tolerance ≡ Check·Refused q
+    → Refused q ≡ Calls.inverseAnswer (Blocks.checkBlock s)
+unfolding Calls.inverseAnswer
+inverse-refused s q e p = rw (block-of s e, refused (Blocks.valuesAt 11 s 0) tolerance q p)
+
+pub refusal-output : (out : List ℕ) (q : Refusal) (b : Answer) (n : ℕ) → length out ≡ 88 → Refused q ≡ b → n ≡ Refusals.number q → Answered (into out b) out out n
+unfolding number written
+refusal-output out q b n e p h = taken-output out out (Refused q) b n e p (h, refl)
+
+pub refused-length : (out : List ℕ) (b : Answer) (n m : ℕ) → length out ≡ 88 → b ≡ Refused (Length n m) → Answered (into out b) out out 1
+unfolding Refusals.number
+refused-length out b n m e p = refusal-output out (Length n m) b 1 e (sym p) refl

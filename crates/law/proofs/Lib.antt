@@ -4,7 +4,6 @@ pub mod Series
 pub mod Exponential
 pub mod Group
 pub mod Adjoint
-pub mod AdjointProduct
 pub mod Model
 pub mod Hat
 pub mod Action

@@ -6,6 +6,7 @@ use Rattle.sgal3.specs.Elements as Elements
 use Rattle.sgal3.specs.Tangents as Tangents
 use Rattle.sgal3.specs.declared.Element.{Element}
 use Rattle.sgal3.specs.declared.Tangent.{Tangent}
+use Rattle.sgal3_rows.specs.TenRows as TenRows
 use Rattle.sgal3_matrices.specs.Matrices as Matrices
 
 -- a ∘ Exp t
@@ -24,7 +25,7 @@ unfoldable pub between : Element → Element → Element
 between a b = Elements.compose (Elements.inverse a) b
 
 unfoldable pub betweenJacobianSelf : Element → Element → List (List Float)
-betweenJacobianSelf a b = Matrices.neg (Matrices.adjoint (Elements.inverse (between a b)))
+betweenJacobianSelf a b = TenRows.neg (Matrices.adjoint (Elements.inverse (between a b)))
 
 -- Log (b⁻¹ ∘ a)
 unfoldable pub rightMinus : Element → Element → Tangent

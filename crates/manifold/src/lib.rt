@@ -107,7 +107,7 @@ pub fn sgal3_between(a: sgal3::Element, b: sgal3::Element) -> sgal3::Element
 pub fn sgal3_between_jacobian_self(a: sgal3::Element, b: sgal3::Element) -> [[f64; 10]; 10]
     ensures { λ r. ⌜ r ≡ Galilean.betweenJacobianSelf a b ⌝ }
 {
-    sgal3_matrices::neg(sgal3_matrices::adjoint(sgal3_between(a, b).inverse()))
+    sgal3_rows::neg(sgal3_matrices::adjoint(sgal3_between(a, b).inverse()))
 }
 
 pub fn sgal3_right_minus(a: sgal3::Element, b: sgal3::Element) -> sgal3::Tangent

@@ -3,15 +3,15 @@ use mathlib.Core.List.{List}
 use lib.Ieee.{Float}
 use Rattle.linear.specs.Matrices as Matrices
 use Rattle.so3.specs.Tangents as Tangents
-use Rattle.so3_blocks.specs.Answers.{elementAnswer, tangentAnswer, matrixAnswer, refusedMatrix}
-use Rattle.so3_blocks.specs.Inputs.{onElements, onElementAndVector, checkElements}
-use Rattle.so3_blocks.specs.declared.Answer.{Answer}
-use Rattle.so3_blocks.specs.declared.Answer.the-variants.{Refused as Answer·Refused}
-use Rattle.so3_blocks.specs.declared.TangentAnswer.{TangentAnswer}
-use Rattle.so3_blocks.specs.declared.TangentAnswer.the-variants.{Refused as TangentAnswer·Refused}
-use Rattle.so3_blocks.specs.declared.MatrixAnswer.{MatrixAnswer}
+use Rattle.so3_answers.specs.Answers.{elementAnswer, tangentAnswer, matrixAnswer, refusedMatrix}
+use Rattle.so3_inputs.specs.Inputs.{onElements, onElementAndVector, checkElements}
+use Rattle.so3_answers.specs.declared.Answer.{Answer}
+use Rattle.so3_answers.specs.declared.Answer.the-variants.{Refused as Answer·Refused}
+use Rattle.so3_answers.specs.declared.TangentAnswer.{TangentAnswer}
+use Rattle.so3_answers.specs.declared.TangentAnswer.the-variants.{Refused as TangentAnswer·Refused}
+use Rattle.so3_answers.specs.declared.MatrixAnswer.{MatrixAnswer}
 use Rattle.manifold.specs.Rotations as Rotations
-use Rattle.manifold_blocks.specs.Turns.{checkPlus, checkRightMinus, checkRightMinusJacobian, checkLeftMinus, checkLeftMinusJacobian}
+use Rattle.manifold_turns.specs.Turns.{checkPlus, checkRightMinus, checkRightMinusJacobian, checkLeftMinus, checkLeftMinusJacobian}
 
 unfoldable pub rightPlus : List Float → List Float → Answer
 rightPlus block tangent = onElementAndVector Answer·Refused (λ a p. elementAnswer (Rotations.rightPlus a (record { theta = p }))) (checkPlus block tangent)

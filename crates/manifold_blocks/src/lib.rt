@@ -1,101 +1,21 @@
 // The group-wide calls on blocks, for rotations: plus, minus and between, with their Jacobians. A call refuses 4 where the exp or
 // log in it would leave the series branch, and a Jacobian where one of its own tests would too.
-use checks::Refusal;
 use linear::Mat3;
-use linear::Vec3;
-use so3::Element;
 use so3::Tangent;
-use so3_blocks::Answer;
-use so3_blocks::ElementAndVector;
-use so3_blocks::Elements;
-use so3_blocks::MatrixAnswer;
-use so3_blocks::TangentAnswer;
+use so3_answers::Answer;
+use so3_answers::MatrixAnswer;
+use so3_answers::TangentAnswer;
+use so3_inputs::ElementAndVector;
+use so3_inputs::Elements;
 ghost use mathlib.Core.Path.{_≡_};
 ghost use Rattle.so3_blocks.specs.Calls as So3;
-ghost use Rattle.manifold_blocks.specs.Turns as Turns;
 ghost use Rattle.manifold_blocks.specs.Calls as Calls;
 
-// Plus takes the exp of its tangent.
-fn within_plus(a: Element, p: Vec3) -> ElementAndVector
-    ensures { λ r. ⌜ r ≡ Turns.withinPlus a p ⌝ }
-{
-    if so3_blocks::leaves_series(Tangent { theta: p }.theta_squared()) {
-        return ElementAndVector::Refused(Refusal::Turn);
-    }
-    ElementAndVector::Done(a, p)
-}
-
-// Minus takes the log of d.
-fn within_minus(d: Element, a: Element, b: Element) -> Elements
-    ensures { λ r. ⌜ r ≡ Turns.withinMinus d a b ⌝ }
-{
-    if so3_blocks::leaves_series(d.sin_angle_squared()) {
-        return Elements::Refused(Refusal::Turn);
-    }
-    Elements::Done(a, b)
-}
-
-// Its Jacobians test the squared angle of that log as well.
-fn within_minus_jacobian(d: Element, a: Element, b: Element) -> Elements
-    ensures { λ r. ⌜ r ≡ Turns.withinMinusJacobian d a b ⌝ }
-{
-    if so3_blocks::leaves_series(d.log().theta_squared()) {
-        return Elements::Refused(Refusal::Turn);
-    }
-    within_minus(d, a, b)
-}
-
-fn check_plus(block: &[f64], tangent: &[f64]) -> ElementAndVector
-    ensures { λ r. ⌜ r ≡ Turns.checkPlus (now (block .entry)) (now (tangent .entry)) ⌝ }
-{
-    match so3_blocks::check_element_and_vector(block, tangent) {
-        ElementAndVector::Done(a, p) => within_plus(a, p),
-        ElementAndVector::Refused(r) => ElementAndVector::Refused(r),
-    }
-}
-
-fn check_right_minus(left: &[f64], right: &[f64]) -> Elements
-    ensures { λ r. ⌜ r ≡ Turns.checkRightMinus (now (left .entry)) (now (right .entry)) ⌝ }
-{
-    match so3_blocks::check_elements(left, right) {
-        Elements::Done(a, b) => within_minus(manifold::so3_between(b, a), a, b),
-        Elements::Refused(r) => Elements::Refused(r),
-    }
-}
-
-fn check_right_minus_jacobian(left: &[f64], right: &[f64]) -> Elements
-    ensures { λ r. ⌜ r ≡ Turns.checkRightMinusJacobian (now (left .entry)) (now (right .entry)) ⌝ }
-{
-    match so3_blocks::check_elements(left, right) {
-        Elements::Done(a, b) => within_minus_jacobian(manifold::so3_between(b, a), a, b),
-        Elements::Refused(r) => Elements::Refused(r),
-    }
-}
-
-fn check_left_minus(left: &[f64], right: &[f64]) -> Elements
-    ensures { λ r. ⌜ r ≡ Turns.checkLeftMinus (now (left .entry)) (now (right .entry)) ⌝ }
-{
-    match so3_blocks::check_elements(left, right) {
-        Elements::Done(a, b) => within_minus(a.compose(b.inverse()), a, b),
-        Elements::Refused(r) => Elements::Refused(r),
-    }
-}
-
-fn check_left_minus_jacobian(left: &[f64], right: &[f64]) -> Elements
-    ensures { λ r. ⌜ r ≡ Turns.checkLeftMinusJacobian (now (left .entry)) (now (right .entry)) ⌝ }
-{
-    match so3_blocks::check_elements(left, right) {
-        Elements::Done(a, b) => within_minus_jacobian(a.compose(b.inverse()), a, b),
-        Elements::Refused(r) => Elements::Refused(r),
-    }
-}
-
-// ---- The calls
 pub fn so3_right_plus(block: &[f64], tangent: &[f64]) -> Answer
     ensures { λ r. ⌜ r ≡ Calls.rightPlus (now (block .entry)) (now (tangent .entry)) ⌝ }
 {
-    match check_plus(block, tangent) {
-        ElementAndVector::Done(a, p) => so3_blocks::element_answer(manifold::so3_right_plus(
+    match manifold_turns::check_plus(block, tangent) {
+        ElementAndVector::Done(a, p) => so3_answers::element_answer(manifold::so3_right_plus(
             a,
             Tangent { theta: p },
         )),
@@ -106,32 +26,32 @@ pub fn so3_right_plus(block: &[f64], tangent: &[f64]) -> Answer
 pub fn so3_right_plus_jacobian_self(block: &[f64], tangent: &[f64]) -> MatrixAnswer
     ensures { λ r. ⌜ r ≡ Calls.rightPlusJacobianSelf (now (block .entry)) (now (tangent .entry)) ⌝ }
 {
-    match check_plus(block, tangent) {
+    match manifold_turns::check_plus(block, tangent) {
         ElementAndVector::Done(a, p) =>
-            so3_blocks::matrix_answer(manifold::so3_right_plus_jacobian_self(
+            so3_answers::matrix_answer(manifold::so3_right_plus_jacobian_self(
                 a,
                 Tangent { theta: p },
             )),
-        ElementAndVector::Refused(r) => so3_blocks::refused_matrix(r),
+        ElementAndVector::Refused(r) => so3_answers::refused_matrix(r),
     }
 }
 
 pub fn so3_right_plus_jacobian_tangent(block: &[f64], tangent: &[f64]) -> MatrixAnswer
     ensures { λ r. ⌜ r ≡ Calls.rightPlusJacobianTangent (now (block .entry)) (now (tangent .entry)) ⌝ }
 {
-    match check_plus(block, tangent) {
-        ElementAndVector::Done(_, p) => so3_blocks::matrix_answer(Tangent {
+    match manifold_turns::check_plus(block, tangent) {
+        ElementAndVector::Done(_, p) => so3_answers::matrix_answer(Tangent {
             theta: p,
         }.right_jacobian()),
-        ElementAndVector::Refused(r) => so3_blocks::refused_matrix(r),
+        ElementAndVector::Refused(r) => so3_answers::refused_matrix(r),
     }
 }
 
 pub fn so3_left_plus(block: &[f64], tangent: &[f64]) -> Answer
     ensures { λ r. ⌜ r ≡ Calls.leftPlus (now (block .entry)) (now (tangent .entry)) ⌝ }
 {
-    match check_plus(block, tangent) {
-        ElementAndVector::Done(a, p) => so3_blocks::element_answer(manifold::so3_left_plus(
+    match manifold_turns::check_plus(block, tangent) {
+        ElementAndVector::Done(a, p) => so3_answers::element_answer(manifold::so3_left_plus(
             a,
             Tangent { theta: p },
         )),
@@ -142,30 +62,30 @@ pub fn so3_left_plus(block: &[f64], tangent: &[f64]) -> Answer
 pub fn so3_left_plus_jacobian_tangent(block: &[f64], tangent: &[f64]) -> MatrixAnswer
     ensures { λ r. ⌜ r ≡ Calls.leftPlusJacobianTangent (now (block .entry)) (now (tangent .entry)) ⌝ }
 {
-    match check_plus(block, tangent) {
+    match manifold_turns::check_plus(block, tangent) {
         ElementAndVector::Done(a, p) =>
-            so3_blocks::matrix_answer(manifold::so3_left_plus_jacobian_tangent(
+            so3_answers::matrix_answer(manifold::so3_left_plus_jacobian_tangent(
                 a,
                 Tangent { theta: p },
             )),
-        ElementAndVector::Refused(r) => so3_blocks::refused_matrix(r),
+        ElementAndVector::Refused(r) => so3_answers::refused_matrix(r),
     }
 }
 
 pub fn so3_left_plus_jacobian_self(block: &[f64], tangent: &[f64]) -> MatrixAnswer
     ensures { λ r. ⌜ r ≡ Calls.leftPlusJacobianSelf (now (block .entry)) (now (tangent .entry)) ⌝ }
 {
-    match check_plus(block, tangent) {
-        ElementAndVector::Done(_, _) => so3_blocks::matrix_answer(Mat3::identity()),
-        ElementAndVector::Refused(r) => so3_blocks::refused_matrix(r),
+    match manifold_turns::check_plus(block, tangent) {
+        ElementAndVector::Done(_, _) => so3_answers::matrix_answer(Mat3::identity()),
+        ElementAndVector::Refused(r) => so3_answers::refused_matrix(r),
     }
 }
 
 pub fn so3_right_minus(left: &[f64], right: &[f64]) -> TangentAnswer
     ensures { λ r. ⌜ r ≡ Calls.rightMinus (now (left .entry)) (now (right .entry)) ⌝ }
 {
-    match check_right_minus(left, right) {
-        Elements::Done(a, b) => so3_blocks::tangent_answer(manifold::so3_right_minus(a, b)),
+    match manifold_turns::check_right_minus(left, right) {
+        Elements::Done(a, b) => so3_answers::tangent_answer(manifold::so3_right_minus(a, b)),
         Elements::Refused(r) => TangentAnswer::Refused(r),
     }
 }
@@ -173,32 +93,32 @@ pub fn so3_right_minus(left: &[f64], right: &[f64]) -> TangentAnswer
 pub fn so3_right_minus_jacobian_self(left: &[f64], right: &[f64]) -> MatrixAnswer
     ensures { λ r. ⌜ r ≡ Calls.rightMinusJacobianSelf (now (left .entry)) (now (right .entry)) ⌝ }
 {
-    match check_right_minus_jacobian(left, right) {
-        Elements::Done(a, b) => so3_blocks::matrix_answer(manifold::so3_right_minus_jacobian_self(
+    match manifold_turns::check_right_minus_jacobian(left, right) {
+        Elements::Done(a, b) => so3_answers::matrix_answer(manifold::so3_right_minus_jacobian_self(
             a,
             b,
         )),
-        Elements::Refused(r) => so3_blocks::refused_matrix(r),
+        Elements::Refused(r) => so3_answers::refused_matrix(r),
     }
 }
 
 pub fn so3_right_minus_jacobian_other(left: &[f64], right: &[f64]) -> MatrixAnswer
     ensures { λ r. ⌜ r ≡ Calls.rightMinusJacobianOther (now (left .entry)) (now (right .entry)) ⌝ }
 {
-    match check_right_minus_jacobian(left, right) {
-        Elements::Done(a, b) => so3_blocks::matrix_answer(manifold::so3_right_minus_jacobian_other(
+    match manifold_turns::check_right_minus_jacobian(left, right) {
+        Elements::Done(a, b) => so3_answers::matrix_answer(manifold::so3_right_minus_jacobian_other(
             a,
             b,
         )),
-        Elements::Refused(r) => so3_blocks::refused_matrix(r),
+        Elements::Refused(r) => so3_answers::refused_matrix(r),
     }
 }
 
 pub fn so3_left_minus(left: &[f64], right: &[f64]) -> TangentAnswer
     ensures { λ r. ⌜ r ≡ Calls.leftMinus (now (left .entry)) (now (right .entry)) ⌝ }
 {
-    match check_left_minus(left, right) {
-        Elements::Done(a, b) => so3_blocks::tangent_answer(manifold::so3_left_minus(a, b)),
+    match manifold_turns::check_left_minus(left, right) {
+        Elements::Done(a, b) => so3_answers::tangent_answer(manifold::so3_left_minus(a, b)),
         Elements::Refused(r) => TangentAnswer::Refused(r),
     }
 }
@@ -206,32 +126,32 @@ pub fn so3_left_minus(left: &[f64], right: &[f64]) -> TangentAnswer
 pub fn so3_left_minus_jacobian_self(left: &[f64], right: &[f64]) -> MatrixAnswer
     ensures { λ r. ⌜ r ≡ Calls.leftMinusJacobianSelf (now (left .entry)) (now (right .entry)) ⌝ }
 {
-    match check_left_minus_jacobian(left, right) {
-        Elements::Done(a, b) => so3_blocks::matrix_answer(manifold::so3_left_minus_jacobian_self(
+    match manifold_turns::check_left_minus_jacobian(left, right) {
+        Elements::Done(a, b) => so3_answers::matrix_answer(manifold::so3_left_minus_jacobian_self(
             a,
             b,
         )),
-        Elements::Refused(r) => so3_blocks::refused_matrix(r),
+        Elements::Refused(r) => so3_answers::refused_matrix(r),
     }
 }
 
 pub fn so3_left_minus_jacobian_other(left: &[f64], right: &[f64]) -> MatrixAnswer
     ensures { λ r. ⌜ r ≡ Calls.leftMinusJacobianOther (now (left .entry)) (now (right .entry)) ⌝ }
 {
-    match check_left_minus_jacobian(left, right) {
-        Elements::Done(a, b) => so3_blocks::matrix_answer(manifold::so3_left_minus_jacobian_other(
+    match manifold_turns::check_left_minus_jacobian(left, right) {
+        Elements::Done(a, b) => so3_answers::matrix_answer(manifold::so3_left_minus_jacobian_other(
             a,
             b,
         )),
-        Elements::Refused(r) => so3_blocks::refused_matrix(r),
+        Elements::Refused(r) => so3_answers::refused_matrix(r),
     }
 }
 
 pub fn so3_between(left: &[f64], right: &[f64]) -> Answer
     ensures { λ r. ⌜ r ≡ Calls.between (now (left .entry)) (now (right .entry)) ⌝ }
 {
-    match so3_blocks::check_elements(left, right) {
-        Elements::Done(a, b) => so3_blocks::element_answer(manifold::so3_between(a, b)),
+    match so3_inputs::check_elements(left, right) {
+        Elements::Done(a, b) => so3_answers::element_answer(manifold::so3_between(a, b)),
         Elements::Refused(r) => Answer::Refused(r),
     }
 }
@@ -239,12 +159,12 @@ pub fn so3_between(left: &[f64], right: &[f64]) -> Answer
 pub fn so3_between_jacobian_self(left: &[f64], right: &[f64]) -> MatrixAnswer
     ensures { λ r. ⌜ r ≡ Calls.betweenJacobianSelf (now (left .entry)) (now (right .entry)) ⌝ }
 {
-    match so3_blocks::check_elements(left, right) {
-        Elements::Done(a, b) => so3_blocks::matrix_answer(manifold::so3_between_jacobian_self(
+    match so3_inputs::check_elements(left, right) {
+        Elements::Done(a, b) => so3_answers::matrix_answer(manifold::so3_between_jacobian_self(
             a,
             b,
         )),
-        Elements::Refused(r) => so3_blocks::refused_matrix(r),
+        Elements::Refused(r) => so3_answers::refused_matrix(r),
     }
 }
 

@@ -5,12 +5,12 @@ use Rattle.sgal3_composition.specs.Calls.{elementAnswer}
 use Rattle.sgal3_composition.specs.declared.Answer.{Answer}
 use Rattle.sgal3_composition.specs.declared.Answer.the-variants.{Refused as Answer·Refused}
 use Rattle.sgal3_matrices.specs.Matrices as Galilean·Matrices
-use Rattle.sgal3_blocks.specs.Answers.{tangentAnswer}
-use Rattle.sgal3_blocks.specs.Inputs.{onElements, onElementAndTangent, checkElements}
-use Rattle.sgal3_blocks.specs.declared.TangentAnswer.{TangentAnswer}
-use Rattle.sgal3_blocks.specs.declared.TangentAnswer.the-variants.{Refused as TangentAnswer·Refused}
-use Rattle.sgal3_matrix_blocks.specs.Answers.{matrix10Answer, refusedMatrix10}
-use Rattle.sgal3_matrix_blocks.specs.declared.Matrix10Answer.{Matrix10Answer}
+use Rattle.sgal3_answers.specs.Answers.{tangentAnswer}
+use Rattle.sgal3_inputs.specs.Inputs.{onElements, onElementAndTangent, checkElements}
+use Rattle.sgal3_answers.specs.declared.TangentAnswer.{TangentAnswer}
+use Rattle.sgal3_answers.specs.declared.TangentAnswer.the-variants.{Refused as TangentAnswer·Refused}
+use Rattle.sgal3_answers.specs.Matrices.{matrix10Answer, refusedMatrix10}
+use Rattle.sgal3_answers.specs.declared.Matrix10Answer.{Matrix10Answer}
 use Rattle.manifold.specs.Galilean as Galilean
 use Rattle.manifold_sgal3_blocks.specs.Turns.{checkPlus, checkRightMinus, checkLeftMinus}
 

@@ -4,11 +4,12 @@ use lib.Ieee.{Float}
 use Rattle.sgal3.specs.Elements as Elements
 use Rattle.sgal3.specs.declared.Element.{Element}
 use Rattle.sgal3.specs.declared.Tangent.{Tangent}
-use Rattle.sgal3_blocks.specs.Inputs.{onElement, onElements, onElementAndTangent, onTangent, withinLog, withinExp, checkElements, checkElementAndTangent}
-use Rattle.sgal3_blocks.specs.declared.Elements.{Elements as Two}
-use Rattle.sgal3_blocks.specs.declared.Elements.the-variants.{Done as Elements·Done, Refused as Elements·Refused}
-use Rattle.sgal3_blocks.specs.declared.ElementAndTangent.{ElementAndTangent}
-use Rattle.sgal3_blocks.specs.declared.ElementAndTangent.the-variants.{Done as ElementAndTangent·Done, Refused as ElementAndTangent·Refused}
+use Rattle.sgal3_inputs.specs.Inputs.{onElement, onElements, onElementAndTangent, onTangent, checkElements, checkElementAndTangent}
+use Rattle.sgal3_inputs.specs.declared.Elements.{Elements as Two}
+use Rattle.sgal3_inputs.specs.declared.Elements.the-variants.{Done as Elements·Done, Refused as Elements·Refused}
+use Rattle.sgal3_inputs.specs.declared.ElementAndTangent.{ElementAndTangent}
+use Rattle.sgal3_inputs.specs.declared.ElementAndTangent.the-variants.{Done as ElementAndTangent·Done, Refused as ElementAndTangent·Refused}
+use Rattle.sgal3_turns.specs.Turns.{withinLog, withinExp}
 use Rattle.manifold.specs.Galilean as Galilean
 
 -- plus takes the exp of its tangent

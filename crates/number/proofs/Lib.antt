@@ -6,6 +6,8 @@ pub mod Candidate
 pub mod Patterns
 pub mod SquareRoot
 pub mod NearOne
+pub mod BySquare
+pub mod Fields
 pub mod Bits
 pub mod Rounding
 pub mod Worked

@@ -52,3 +52,16 @@ pub record Split (n : ℕ) (s : Scaled) : Type 0 where
 pub record Rooted (b r : ℕ) : Type 0 where
   pub finite : r < 0x7ff0_0000_0000_0000
   pub value : ofBits binary64 r ≡ nearestRoot (patternCount b * 2 ^ 1074)
+
+-- n is the square of b's distance from 1.0's pattern, doubled above it
+pub record SquareTerm (b n : ℕ) : Type 0 where
+  pub distance : ℕ
+  pub near : distance ≤ 2 ^ 31
+  pub small : n ≤ 2 ^ 63
+  pub below : b < 0x3ff0_0000_0000_0000 → (distance + b ≡ 0x3ff0_0000_0000_0000) × (n ≡ square distance)
+  pub above : 0x3ff0_0000_0000_0000 ≤ b → (b ≡ distance + 0x3ff0_0000_0000_0000) × (n ≡ square distance * 2)
+
+-- n is 2 ^ 44 or more from the multiples of 2 ^ 55
+pub record Clear (n : ℕ) : Type 0 where
+  pub low : 2 ^ 44 ≤ n % 2 ^ 55
+  pub high : n % 2 ^ 55 + 2 ^ 44 ≤ 2 ^ 55

@@ -2,16 +2,24 @@
 ghost use mathlib.Core.Path.{_≡_};
 ghost use mathlib.Core.Bool.{true};
 ghost use Prim.Native.Nat.{_+_, _*_, _^_, _<_, _≤_};
+ghost use lib.Ieee.{binary64, ofBits};
 ghost use lib.Ieee.Scale.{finite};
 ghost use Rattle.number.specs.Exact.{abs};
 ghost use Rattle.number.specs.Root.{squareRoot, squareRootBits};
-ghost use Rattle.number.specs.Steps.{Ready, Extended, WholeRoot, Between, Split, Rooted, patternCount};
+ghost use Rattle.number.specs.Steps.{Ready, Extended, WholeRoot, Between, Split, Rooted, SquareTerm, Clear, patternCount};
 
 // The bit pattern of 1.0.
 const ONE: u64 = 0x3ff0_0000_0000_0000;
 
 // The bit pattern of +infinity: those of the finite numbers that are not below zero lie below it.
 const INFINITY: u64 = 0x7ff0_0000_0000_0000;
+
+// Whether the pattern b is that of a finite number.
+pub fn is_finite_bits(b: u64) -> bool
+    ensures { λ r. ⌜ r ≡ finite (ofBits binary64 b) ⌝ }
+{
+    b % 0x8000_0000_0000_0000 < INFINITY
+}
 
 // Whether x is neither a NaN nor an infinity.
 pub fn is_finite(x: f64) -> bool
@@ -25,13 +33,10 @@ pub fn is_finite(x: f64) -> bool
 pub fn magnitude(x: f64) -> f64
     ensures { λ r. ⌜ r ≡ abs x ⌝ }
 {
-    if x < 0.0 {
-        return -x;
+    if x != x {
+        return x;
     }
-    if x == 0.0 {
-        return 0.0;
-    }
-    x
+    f64::from_bits(f64::to_bits(x) % 0x8000_0000_0000_0000)
 }
 
 // The square root, correctly rounded.
@@ -80,6 +85,14 @@ fn root_bits(b: u64) -> u64
             return root_bits_near_one(b);
         }
     }
+    if b >= 0x3fef_ffff_8000_0000 {
+        if b <= 0x3ff0_0000_8000_0000 {
+            let n = square_term(b);
+            if is_clear(n) {
+                return root_bits_by_square(b, n);
+            }
+        }
+    }
     let s = split(b);
     let m = s.m;
     let j = s.j;
@@ -94,6 +107,45 @@ fn root_bits_near_one(b: u64) -> u64
     ensures { λ r. ⌜ Rooted b r ⌝ }
 {
     (b + ONE) / 2
+}
+
+// How many patterns b is from 1.0's.
+fn distance_from_one(b: u64) -> u64
+    ensures { λ r. ⌜ (b ≤ 0x3ff0_0000_0000_0000 → r + b ≡ 0x3ff0_0000_0000_0000) × (0x3ff0_0000_0000_0000 ≤ b → b ≡ r + 0x3ff0_0000_0000_0000) ⌝ }
+{
+    if b < ONE { ONE - b } else { b - ONE }
+}
+
+// The square of that distance, doubled above 1.0, where a pattern is twice as wide. Two small choices and not two forms, so that they
+// compile to no branch: on which side of 1.0 a norm lies can't be foretold.
+fn square_term(b: u64) -> u64
+    requires { ⌜ 0x3fef_ffff_8000_0000 ≤ b ⌝ }
+    requires { ⌜ b ≤ 0x3ff0_0000_8000_0000 ⌝ }
+    ensures { λ r. ⌜ SquareTerm b r ⌝ }
+{
+    let d = distance_from_one(b);
+    let n = d * d;
+    if b < ONE { n } else { n * 2 }
+}
+
+// Whether n is 2^44 or more from the multiples of 2^55.
+fn is_clear(n: u64) -> bool
+    requires { ⌜ n ≤ 2 ^ 63 ⌝ }
+    ensures { λ r. ⌜ (r ≡ true → Clear n) ⌝ }
+{
+    (n + 0x1000_0000_0000) % 0x80_0000_0000_0000 >= 0x2000_0000_0000
+}
+
+// Within 2^31 patterns of 1.0, twice the root's pattern is below the sum of b and 1.0's by n / 2^55: the term of the distance's square
+// in the root's series. The later terms are too small to show where n is clear of a multiple.
+fn root_bits_by_square(b: u64, n: u64) -> u64
+    requires { ⌜ 0x3fef_ffff_8000_0000 ≤ b ⌝ }
+    requires { ⌜ b ≤ 0x3ff0_0000_8000_0000 ⌝ }
+    requires { ⌜ SquareTerm b n ⌝ }
+    requires { ⌜ Clear n ⌝ }
+    ensures { λ r. ⌜ Rooted b r ⌝ }
+{
+    (b + ONE - (n >> 55)) / 2
 }
 
 // A whole number as m * 2^j, m having 53 binary digits.

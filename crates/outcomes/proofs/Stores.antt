@@ -11,8 +11,8 @@ use Rattle.words.specs.Word.{bytesOf}
 use Rattle.words.proofs.Stores.{sets-append}
 use Rattle.checks.specs.declared.Check.{Check}
 use Rattle.checks.specs.declared.Check.the-variants.{Passed, Refused}
-use Rattle.sgal3_matrix_blocks.specs.declared.Row10.{Row10}
-use Rattle.sgal3_matrix_blocks.specs.declared.Matrix10Answer.{Matrix10Answer}
+use Rattle.sgal3_answers.specs.declared.Row10.{Row10}
+use Rattle.sgal3_answers.specs.declared.Matrix10Answer.{Matrix10Answer}
 use Rattle.outcomes.specs.Outcomes.{pair, four, bits, rowBits, header, outcome, ofWord, ofMatrix10}
 
 bytes-length : (n : ℕ) → length (bytesOf n) ≡ 8

@@ -12,25 +12,25 @@ use Rattle.checks.specs.declared.Refusal.{Refusal}
 use Rattle.checks.specs.declared.Refusal.the-variants.{Length, NotFinite, NotUnit, Turn, Overflow}
 use Rattle.checks.specs.declared.Check.{Check}
 use Rattle.checks.specs.declared.Check.the-variants.{Passed, Refused}
-use Rattle.so3_blocks.specs.declared.Answer.{Answer as Rotation}
-use Rattle.so3_blocks.specs.declared.Answer.the-variants.{Done as Rotation·Done, Refused as Rotation·Refused}
-use Rattle.so3_blocks.specs.declared.TangentAnswer.{TangentAnswer as RotationTangent}
-use Rattle.so3_blocks.specs.declared.TangentAnswer.the-variants.{Done as RotationTangent·Done, Refused as RotationTangent·Refused}
-use Rattle.so3_blocks.specs.declared.VectorAnswer.{VectorAnswer}
-use Rattle.so3_blocks.specs.declared.VectorAnswer.the-variants.{Done as Vector·Done, Refused as Vector·Refused}
-use Rattle.so3_blocks.specs.declared.ValidAnswer.{ValidAnswer}
-use Rattle.so3_blocks.specs.declared.ValidAnswer.the-variants.{Done as Valid·Done, Refused as Valid·Refused}
-use Rattle.so3_blocks.specs.declared.MatrixAnswer.{MatrixAnswer}
+use Rattle.so3_answers.specs.declared.Answer.{Answer as Rotation}
+use Rattle.so3_answers.specs.declared.Answer.the-variants.{Done as Rotation·Done, Refused as Rotation·Refused}
+use Rattle.so3_answers.specs.declared.TangentAnswer.{TangentAnswer as RotationTangent}
+use Rattle.so3_answers.specs.declared.TangentAnswer.the-variants.{Done as RotationTangent·Done, Refused as RotationTangent·Refused}
+use Rattle.so3_answers.specs.declared.VectorAnswer.{VectorAnswer}
+use Rattle.so3_answers.specs.declared.VectorAnswer.the-variants.{Done as Vector·Done, Refused as Vector·Refused}
+use Rattle.so3_answers.specs.declared.ValidAnswer.{ValidAnswer}
+use Rattle.so3_answers.specs.declared.ValidAnswer.the-variants.{Done as Valid·Done, Refused as Valid·Refused}
+use Rattle.so3_answers.specs.declared.MatrixAnswer.{MatrixAnswer}
 use Rattle.sgal3.specs.Elements as Elements
 use Rattle.sgal3.specs.Tangents as Tangents
 use Rattle.sgal3_composition.specs.declared.Answer.{Answer}
 use Rattle.sgal3_composition.specs.declared.Answer.the-variants.{Done as Answer·Done, Refused as Answer·Refused}
-use Rattle.sgal3_blocks.specs.declared.TangentAnswer.{TangentAnswer}
-use Rattle.sgal3_blocks.specs.declared.TangentAnswer.the-variants.{Done as Tangent·Done, Refused as Tangent·Refused}
-use Rattle.sgal3_blocks.specs.declared.NumberAnswer.{NumberAnswer}
-use Rattle.sgal3_blocks.specs.declared.NumberAnswer.the-variants.{Done as Number·Done, Refused as Number·Refused}
-use Rattle.sgal3_matrix_blocks.specs.declared.Row10.{Row10}
-use Rattle.sgal3_matrix_blocks.specs.declared.Matrix10Answer.{Matrix10Answer}
+use Rattle.sgal3_answers.specs.declared.TangentAnswer.{TangentAnswer}
+use Rattle.sgal3_answers.specs.declared.TangentAnswer.the-variants.{Done as Tangent·Done, Refused as Tangent·Refused}
+use Rattle.sgal3_answers.specs.declared.NumberAnswer.{NumberAnswer}
+use Rattle.sgal3_answers.specs.declared.NumberAnswer.the-variants.{Done as Number·Done, Refused as Number·Refused}
+use Rattle.sgal3_answers.specs.declared.Row10.{Row10}
+use Rattle.sgal3_answers.specs.declared.Matrix10Answer.{Matrix10Answer}
 
 -- ---- words
 unfoldable pub firstFigure : Refusal → ℕ

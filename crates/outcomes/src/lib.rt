@@ -1,15 +1,15 @@
 // What a call came to, as bytes: little-endian words for the number, two figures, how many values follow, and their bits.
 use checks::Check;
 use checks::Refusal;
-use sgal3_blocks::CoeffsAnswer;
-use sgal3_blocks::NumberAnswer;
+use sgal3_answers::ActJacobianAnswer;
+use sgal3_answers::CoeffsAnswer;
+use sgal3_answers::HatAnswer;
+use sgal3_answers::Matrix10Answer;
+use sgal3_answers::NumberAnswer;
+use sgal3_answers::Row10;
 use sgal3_composition::Answer;
-use sgal3_matrix_blocks::ActJacobianAnswer;
-use sgal3_matrix_blocks::HatAnswer;
-use sgal3_matrix_blocks::Matrix10Answer;
-use sgal3_matrix_blocks::Row10;
-use so3_blocks::ValidAnswer;
-use so3_blocks::VectorAnswer;
+use so3_answers::ValidAnswer;
+use so3_answers::VectorAnswer;
 ghost use mathlib.Core.Path.{_≡_};
 ghost use Prim.Native.Nat.{_+_, _*_, _≤_};
 ghost use lib.ListN.{length};
@@ -152,16 +152,16 @@ fn put_word(out: &mut [u8; 832], n: u64) -> usize
     40
 }
 
-pub fn put_rotation(out: &mut [u8; 832], a: so3_blocks::Answer) -> usize
+pub fn put_rotation(out: &mut [u8; 832], a: so3_answers::Answer) -> usize
     ensures { λ r. ⌜ Outcomes.Put r (now (out .entry)) (now (out .exit)) (Outcomes.ofRotation a) ⌝ }
 {
     match a {
-        so3_blocks::Answer::Done(e) => {
+        so3_answers::Answer::Done(e) => {
             let q = e.params;
             let values = [q.w, q.x, q.y, q.z];
             put_outcome(out, Check::Passed, &values)
         }
-        so3_blocks::Answer::Refused(r) => put_check(out, Check::Refused(r)),
+        so3_answers::Answer::Refused(r) => put_check(out, Check::Refused(r)),
     }
 }
 
@@ -177,20 +177,20 @@ pub fn put_vector(out: &mut [u8; 832], a: VectorAnswer) -> usize
     }
 }
 
-pub fn put_rotation_tangent(out: &mut [u8; 832], a: so3_blocks::TangentAnswer) -> usize
+pub fn put_rotation_tangent(out: &mut [u8; 832], a: so3_answers::TangentAnswer) -> usize
     ensures { λ r. ⌜ Outcomes.Put r (now (out .entry)) (now (out .exit)) (Outcomes.ofRotationTangent a) ⌝ }
 {
     match a {
-        so3_blocks::TangentAnswer::Done(t) => {
+        so3_answers::TangentAnswer::Done(t) => {
             let v = t.theta;
             let values = [v.x, v.y, v.z];
             put_outcome(out, Check::Passed, &values)
         }
-        so3_blocks::TangentAnswer::Refused(r) => put_check(out, Check::Refused(r)),
+        so3_answers::TangentAnswer::Refused(r) => put_check(out, Check::Refused(r)),
     }
 }
 
-pub fn put_matrix3(out: &mut [u8; 832], a: so3_blocks::MatrixAnswer) -> usize
+pub fn put_matrix3(out: &mut [u8; 832], a: so3_answers::MatrixAnswer) -> usize
     ensures { λ r. ⌜ Outcomes.Put r (now (out .entry)) (now (out .exit)) (Outcomes.ofMatrix3 a) ⌝ }
 {
     let c = a.outcome;
@@ -214,15 +214,15 @@ pub fn put_element(out: &mut [u8; 832], a: Answer) -> usize
     }
 }
 
-pub fn put_tangent(out: &mut [u8; 832], a: sgal3_blocks::TangentAnswer) -> usize
+pub fn put_tangent(out: &mut [u8; 832], a: sgal3_answers::TangentAnswer) -> usize
     ensures { λ r. ⌜ Outcomes.Put r (now (out .entry)) (now (out .exit)) (Outcomes.ofTangent a) ⌝ }
 {
     match a {
-        sgal3_blocks::TangentAnswer::Done(t) => {
+        sgal3_answers::TangentAnswer::Done(t) => {
             let values = t.coeffs();
             put_outcome(out, Check::Passed, &values)
         }
-        sgal3_blocks::TangentAnswer::Refused(r) => put_check(out, Check::Refused(r)),
+        sgal3_answers::TangentAnswer::Refused(r) => put_check(out, Check::Refused(r)),
     }
 }
 
@@ -271,7 +271,7 @@ pub fn put_coeffs(out: &mut [u8; 832], a: CoeffsAnswer) -> usize
     put_11(out, c, &values)
 }
 
-pub fn put_matrix5(out: &mut [u8; 832], a: sgal3_matrix_blocks::MatrixAnswer) -> usize
+pub fn put_matrix5(out: &mut [u8; 832], a: sgal3_answers::MatrixAnswer) -> usize
     ensures { λ r. ⌜ Outcomes.Put r (now (out .entry)) (now (out .exit)) (Outcomes.outcome (a .outcome) (a .values)) ⌝ }
 {
     let c = a.outcome;

@@ -1,4 +1,3 @@
-pub mod Digits
-pub mod Lines
+pub mod Printed
 pub mod Reading
 pub mod Worked

@@ -10,7 +10,8 @@ use lib.ListN.{length, take}
 use lib.Seq.{take-all, length-take-le}
 use Rattle.checks.specs.Refusals.{number}
 use Rattle.handset.specs.Blocks as Blocks
-use Rattle.report.specs.Text.{text, refusal, reportOf}
+use Rattle.report_lines.specs.Lines.{refusal}
+use Rattle.report.specs.Text.{text, reportOf}
 
 too-long : (s : List ℕ) → 65472 < length s → reportOf s ≡ refusal 1
 unfolding reportOf Blocks.chain text number

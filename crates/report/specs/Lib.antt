@@ -1,3 +1,2 @@
-pub mod Ascii
 pub mod Text
 pub mod Worked

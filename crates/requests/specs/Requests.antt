@@ -9,15 +9,16 @@ use Rattle.checks.specs.Checks as Checks
 use Rattle.checks.specs.declared.Check.the-variants.{Passed}
 use Rattle.so3.specs.Elements as So3·Elements
 use Rattle.so3.specs.Tangents as So3·Tangents
-use Rattle.so3_blocks.specs.Answers as So3·Answers
-use Rattle.so3_blocks.specs.Answers.{matrixAnswer}
+use Rattle.so3_answers.specs.Answers as So3·Answers
+use Rattle.so3_answers.specs.Answers.{matrixAnswer}
 use Rattle.so3_blocks.specs.Calls as Rotations
+use Rattle.so3_tangent_blocks.specs.Calls as RotationTangents
 use Rattle.manifold_blocks.specs.Calls as RotationsGroup
 use Rattle.sgal3.specs.Elements as Elements
 use Rattle.sgal3.specs.Tangents as Tangents
-use Rattle.sgal3_matrices.specs.Matrices as Matrices
+use Rattle.sgal3_algebra.specs.Algebra as Algebra
 use Rattle.sgal3_composition.specs.Calls as Composition
-use Rattle.sgal3_blocks.specs.Answers.{tangentAnswer}
+use Rattle.sgal3_answers.specs.Answers.{tangentAnswer}
 use Rattle.sgal3_blocks.specs.Calls as Galilean
 use Rattle.sgal3_matrix_blocks.specs.Calls as GalileanMatrices
 use Rattle.manifold_sgal3_blocks.specs.Calls as GalileanGroup
@@ -58,22 +59,22 @@ rotationLogCall call left right extra =
 -- the exponential of a tangent of the rotations, and its Jacobians
 unfoldable pub rotationExpCall : ℕ → List Float → List Float → ℕ → List ℕ
 rotationExpCall call left right extra =
-    cond (eqb call 26) (Outcomes.ofRotation (Rotations.exp left))
-    (cond (eqb call 27) (Outcomes.ofMatrix3 (Rotations.rightJacobian left))
-    (cond (eqb call 28) (Outcomes.ofMatrix3 (Rotations.leftJacobian left))
-    (cond (eqb call 29) (Outcomes.ofMatrix3 (Rotations.rightJacobian left))
-    (cond (eqb call 30) (Outcomes.ofMatrix3 (Rotations.leftJacobianInv left))
-    (cond (eqb call 31) (Outcomes.ofMatrix3 (Rotations.rightJacobianInv left))
+    cond (eqb call 26) (Outcomes.ofRotation (RotationTangents.exp left))
+    (cond (eqb call 27) (Outcomes.ofMatrix3 (RotationTangents.rightJacobian left))
+    (cond (eqb call 28) (Outcomes.ofMatrix3 (RotationTangents.leftJacobian left))
+    (cond (eqb call 29) (Outcomes.ofMatrix3 (RotationTangents.rightJacobian left))
+    (cond (eqb call 30) (Outcomes.ofMatrix3 (RotationTangents.leftJacobianInv left))
+    (cond (eqb call 31) (Outcomes.ofMatrix3 (RotationTangents.rightJacobianInv left))
     [])))))
 
 -- the algebra of the rotations, and what takes no block
 unfoldable pub rotationTangentCall : ℕ → List Float → List Float → ℕ → List ℕ
 rotationTangentCall call left right extra =
-    cond (eqb call 32) (Outcomes.ofMatrix3 (Rotations.hat left))
-    (cond (eqb call 33) (Outcomes.ofMatrix3 (Rotations.smallAdj left))
-    (cond (eqb call 34) (Outcomes.ofRotationTangent (Rotations.lieBracket left right))
-    (cond (eqb call 35) (Outcomes.ofRotationTangent (Rotations.normalizeTangent left))
-    (cond (eqb call 36) (Outcomes.ofRotationTangent (Rotations.normalizedTangent left))
+    cond (eqb call 32) (Outcomes.ofMatrix3 (RotationTangents.hat left))
+    (cond (eqb call 33) (Outcomes.ofMatrix3 (RotationTangents.smallAdj left))
+    (cond (eqb call 34) (Outcomes.ofRotationTangent (RotationTangents.lieBracket left right))
+    (cond (eqb call 35) (Outcomes.ofRotationTangent (RotationTangents.normalizeTangent left))
+    (cond (eqb call 36) (Outcomes.ofRotationTangent (RotationTangents.normalizedTangent left))
     (cond (eqb call 37) (Outcomes.ofMatrix3 (matrixAnswer (So3·Tangents.generator extra)))
     (cond (eqb call 38) (Outcomes.ofRotationTangent (So3·Answers.tangentAnswer So3·Tangents.zero))
     (cond (eqb call 39) (Outcomes.ofRotation (So3·Answers.elementAnswer So3·Elements.identity))
@@ -212,7 +213,7 @@ quaternionCall left =
     cond (eqb (length left) 4) (Outcomes.ofRotation (Rotations.tryFromQuaternionWxyz (getD left 0 nan) (getD left 1 nan) (getD left 2 nan) (getD left 3 nan))) []
 
 unfoldable pub generatorCall : ℕ → List ℕ
-generatorCall extra = Outcomes.outcome Passed (Matrices.generator extra)
+generatorCall extra = Outcomes.outcome Passed (Algebra.generator extra)
 
 -- the calls on rotations and their tangents
 unfoldable pub so3Call : ℕ → List Float → List Float → ℕ → List ℕ

@@ -94,22 +94,22 @@ fn rotation_exp_call(
     ensures { λ r. ⌜ Outcomes.Put r (now (out .entry)) (now (out .exit)) (Requests.rotationExpCall call (now (left .entry)) (now (right .entry)) extra) ⌝ }
 {
     if call == 26 {
-        return outcomes::put_rotation(out, so3_blocks::exp(left));
+        return outcomes::put_rotation(out, so3_tangent_blocks::exp(left));
     }
     if call == 27 {
-        return outcomes::put_matrix3(out, so3_blocks::exp_jacobian(left));
+        return outcomes::put_matrix3(out, so3_tangent_blocks::exp_jacobian(left));
     }
     if call == 28 {
-        return outcomes::put_matrix3(out, so3_blocks::left_jacobian(left));
+        return outcomes::put_matrix3(out, so3_tangent_blocks::left_jacobian(left));
     }
     if call == 29 {
-        return outcomes::put_matrix3(out, so3_blocks::right_jacobian(left));
+        return outcomes::put_matrix3(out, so3_tangent_blocks::right_jacobian(left));
     }
     if call == 30 {
-        return outcomes::put_matrix3(out, so3_blocks::left_jacobian_inv(left));
+        return outcomes::put_matrix3(out, so3_tangent_blocks::left_jacobian_inv(left));
     }
     if call == 31 {
-        return outcomes::put_matrix3(out, so3_blocks::right_jacobian_inv(left));
+        return outcomes::put_matrix3(out, so3_tangent_blocks::right_jacobian_inv(left));
     }
     0
 }
@@ -125,34 +125,34 @@ fn rotation_tangent_call(
     ensures { λ r. ⌜ Outcomes.Put r (now (out .entry)) (now (out .exit)) (Requests.rotationTangentCall call (now (left .entry)) (now (right .entry)) extra) ⌝ }
 {
     if call == 32 {
-        return outcomes::put_matrix3(out, so3_blocks::hat(left));
+        return outcomes::put_matrix3(out, so3_tangent_blocks::hat(left));
     }
     if call == 33 {
-        return outcomes::put_matrix3(out, so3_blocks::small_adj(left));
+        return outcomes::put_matrix3(out, so3_tangent_blocks::small_adj(left));
     }
     if call == 34 {
-        return outcomes::put_rotation_tangent(out, so3_blocks::lie_bracket(left, right));
+        return outcomes::put_rotation_tangent(out, so3_tangent_blocks::lie_bracket(left, right));
     }
     if call == 35 {
-        return outcomes::put_rotation_tangent(out, so3_blocks::normalize_tangent(left));
+        return outcomes::put_rotation_tangent(out, so3_tangent_blocks::normalize_tangent(left));
     }
     if call == 36 {
-        return outcomes::put_rotation_tangent(out, so3_blocks::normalized_tangent(left));
+        return outcomes::put_rotation_tangent(out, so3_tangent_blocks::normalized_tangent(left));
     }
     if call == 37 {
         return outcomes::put_matrix3(
             out,
-            so3_blocks::matrix_answer(so3::generator(extra as usize)),
+            so3_answers::matrix_answer(so3::generator(extra as usize)),
         );
     }
     if call == 38 {
         return outcomes::put_rotation_tangent(
             out,
-            so3_blocks::tangent_answer(so3::Tangent::zero()),
+            so3_answers::tangent_answer(so3::Tangent::zero()),
         );
     }
     if call == 39 {
-        return outcomes::put_rotation(out, so3_blocks::element_answer(so3::Element::identity()));
+        return outcomes::put_rotation(out, so3_answers::element_answer(so3::Element::identity()));
     }
     0
 }
@@ -388,7 +388,7 @@ fn tangent_call(call: u64, left: &[f64], right: &[f64], extra: u64, out: &mut [u
         return outcomes::put_tangent(out, sgal3_blocks::normalized_tangent(left));
     }
     if call == 89 {
-        return outcomes::put_tangent(out, sgal3_blocks::tangent_answer(sgal3::Tangent::zero()));
+        return outcomes::put_tangent(out, sgal3_answers::tangent_answer(sgal3::Tangent::zero()));
     }
     if call == 90 {
         return outcomes::put_element(
@@ -534,7 +534,7 @@ fn quaternion_call(left: &[f64], out: &mut [u8; 832]) -> usize
 fn generator_call(extra: u64, out: &mut [u8; 832]) -> usize
     ensures { λ r. ⌜ Outcomes.Put r (now (out .entry)) (now (out .exit)) (Requests.generatorCall extra) ⌝ }
 {
-    let values = sgal3_matrices::generator(extra as usize);
+    let values = sgal3_algebra::generator(extra as usize);
     outcomes::put_36(out, Check::Passed, &values)
 }
 

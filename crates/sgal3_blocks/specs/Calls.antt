@@ -2,27 +2,28 @@
 use mathlib.Core.List.{List}
 use lib.Ieee.{Float}
 use Rattle.so3.specs.Elements as So3
-use Rattle.so3_blocks.specs.Answers.{elementAnswer, vectorAnswer, matrixAnswer, refusedMatrix}
-use Rattle.so3_blocks.specs.declared.Answer.{Answer as So3·Answer}
-use Rattle.so3_blocks.specs.declared.Answer.the-variants.{Refused as So3·Answer·Refused}
-use Rattle.so3_blocks.specs.declared.VectorAnswer.{VectorAnswer}
-use Rattle.so3_blocks.specs.declared.VectorAnswer.the-variants.{Refused as VectorAnswer·Refused}
-use Rattle.so3_blocks.specs.declared.ValidAnswer.{ValidAnswer}
-use Rattle.so3_blocks.specs.declared.ValidAnswer.the-variants.{Done as ValidAnswer·Done, Refused as ValidAnswer·Refused}
-use Rattle.so3_blocks.specs.declared.MatrixAnswer.{MatrixAnswer}
+use Rattle.so3_answers.specs.Answers.{elementAnswer, vectorAnswer, matrixAnswer, refusedMatrix}
+use Rattle.so3_answers.specs.declared.Answer.{Answer as So3·Answer}
+use Rattle.so3_answers.specs.declared.Answer.the-variants.{Refused as So3·Answer·Refused}
+use Rattle.so3_answers.specs.declared.VectorAnswer.{VectorAnswer}
+use Rattle.so3_answers.specs.declared.VectorAnswer.the-variants.{Refused as VectorAnswer·Refused}
+use Rattle.so3_answers.specs.declared.ValidAnswer.{ValidAnswer}
+use Rattle.so3_answers.specs.declared.ValidAnswer.the-variants.{Done as ValidAnswer·Done, Refused as ValidAnswer·Refused}
+use Rattle.so3_answers.specs.declared.MatrixAnswer.{MatrixAnswer}
 use Rattle.sgal3.specs.Elements as Elements
 use Rattle.sgal3.specs.Tangents as Tangents
-use Rattle.sgal3_matrices.specs.Matrices as Matrices
+use Rattle.sgal3_algebra.specs.Algebra as Algebra
 use Rattle.sgal3_composition.specs.Calls as Composition
 use Rattle.sgal3_composition.specs.declared.Answer.{Answer}
 use Rattle.sgal3_composition.specs.declared.Answer.the-variants.{Refused as Answer·Refused}
-use Rattle.sgal3_blocks.specs.Answers.{tangentAnswer, coeffsAnswer, refusedCoeffs}
-use Rattle.sgal3_blocks.specs.Inputs.{onElement, onElementAndVector, onTangent, onTangents, checkElement, checkElementAndVector, checkTangent, checkTangents, checkLog, checkExp}
-use Rattle.sgal3_blocks.specs.declared.TangentAnswer.{TangentAnswer}
-use Rattle.sgal3_blocks.specs.declared.TangentAnswer.the-variants.{Refused as TangentAnswer·Refused}
-use Rattle.sgal3_blocks.specs.declared.NumberAnswer.{NumberAnswer}
-use Rattle.sgal3_blocks.specs.declared.NumberAnswer.the-variants.{Done as NumberAnswer·Done, Refused as NumberAnswer·Refused}
-use Rattle.sgal3_blocks.specs.declared.CoeffsAnswer.{CoeffsAnswer}
+use Rattle.sgal3_answers.specs.Answers.{tangentAnswer, coeffsAnswer, refusedCoeffs}
+use Rattle.sgal3_inputs.specs.Inputs.{onElement, onElementAndVector, onTangent, onTangents, checkElement, checkElementAndVector, checkTangent, checkTangents}
+use Rattle.sgal3_turns.specs.Turns.{checkLog, checkExp}
+use Rattle.sgal3_answers.specs.declared.TangentAnswer.{TangentAnswer}
+use Rattle.sgal3_answers.specs.declared.TangentAnswer.the-variants.{Refused as TangentAnswer·Refused}
+use Rattle.sgal3_answers.specs.declared.NumberAnswer.{NumberAnswer}
+use Rattle.sgal3_answers.specs.declared.NumberAnswer.the-variants.{Done as NumberAnswer·Done, Refused as NumberAnswer·Refused}
+use Rattle.sgal3_answers.specs.declared.CoeffsAnswer.{CoeffsAnswer}
 
 unfoldable pub translation : List Float → VectorAnswer
 translation block = onElement VectorAnswer·Refused (λ a. vectorAnswer (a .translation)) (checkElement block)
@@ -65,7 +66,7 @@ unfoldable pub exp : List Float → Answer
 exp tangent = onTangent Answer·Refused (λ t. Composition.elementAnswer (Tangents.exp t)) (checkExp tangent)
 
 unfoldable pub lieBracket : List Float → List Float → TangentAnswer
-lieBracket left right = onTangents TangentAnswer·Refused (λ t u. tangentAnswer (Matrices.lieBracket t u)) (checkTangents left right)
+lieBracket left right = onTangents TangentAnswer·Refused (λ t u. tangentAnswer (Algebra.lieBracket t u)) (checkTangents left right)
 
 unfoldable pub normalizeTangent : List Float → TangentAnswer
 normalizeTangent tangent = onTangent TangentAnswer·Refused (λ t. tangentAnswer (Tangents.normalize t)) (checkTangent tangent)

@@ -1,42 +1,20 @@
--- The matrices of SGal(3): the formulas of the group at the rounded operations. Definitions only.
+-- The matrices of an element of SGal(3): the formulas of the group at the rounded operations. Definitions only.
 -- A 10 by 10 matrix is a list of its rows; the others are listed by row.
-use Prim.Native.Nat.{ℕ, _-_}
-use mathlib.Core.Bool.{cond}
-use mathlib.Core.List.{List, map}
-use lib.Dec.{eqb, ltb}
+use mathlib.Core.List.{List}
 use lib.Ieee.{Float}
 use Rattle.law.specs.Rounded.{rounded}
 use Rattle.law.specs.Rows as Rows
 use Rattle.law.specs.Galilean as Law
-use Rattle.linear.specs.Records.{vector, matrix as ofMat3}
-use Rattle.linear.specs.Vectors as Vectors
-use Rattle.linear.specs.Matrices as Linear
+use Rattle.linear.specs.Records.{vector}
 use Rattle.linear.specs.declared.Vec3.{Vec3}
-use Rattle.linear.specs.declared.Mat3.{Mat3}
-use Rattle.so3.specs.Tangents as So3
 use Rattle.sgal3.specs.Elements.{element}
-use Rattle.sgal3.specs.Tangents.{tangent, ofTangent}
 use Rattle.sgal3.specs.declared.Element.{Element}
-use Rattle.sgal3.specs.declared.Tangent.{Tangent}
 
--- ---- of an element
 unfoldable pub matrix : Element → List Float
 matrix a = Rows.byRow (Law.matrix rounded (element a))
 
-unfoldable pub row10 : Vec3 → Vec3 → Vec3 → Float → List Float
-row10 a b c k = Law.row10 rounded (vector a) (vector b) (vector c) k
-
-unfoldable pub byBlocks : Mat3 → Mat3 → Mat3 → Mat3 → Vec3 → Float → List (List Float)
-byBlocks r b c d u k = Law.byBlocks rounded (ofMat3 r) (ofMat3 b) (ofMat3 c) (ofMat3 d) (vector u) k
-
 unfoldable pub adjoint : Element → List (List Float)
 adjoint a = Law.adjoint rounded (element a)
-
-unfoldable pub negRow : List Float → List Float
-negRow r = map (λ x. rounded .neg x) r
-
-unfoldable pub neg : List (List Float) → List (List Float)
-neg m = Rows.neg rounded m
 
 unfoldable pub jacobianIdentity : List (List Float)
 jacobianIdentity = Law.jacobianIdentity rounded
@@ -51,37 +29,3 @@ composeJacobianSelf a b = Law.composeJacobianSelf rounded (element a) (element b
 -- of act a p with respect to a: three rows of ten
 unfoldable pub actJacobianSelf : Element → Vec3 → List Float
 actJacobianSelf a p = Rows.byRow (Law.actJacobianSelf rounded (element a) (vector p))
-
--- ---- of a tangent
-unfoldable pub lieAlgebra : Mat3 → Vec3 → Vec3 → Float → List Float
-lieAlgebra h ρ ν s = Rows.byRow (Law.lieAlgebra rounded (ofMat3 h) (vector ρ) (vector ν) s)
-
-unfoldable pub hat : Tangent → List Float
-hat t = Rows.byRow (Law.hat rounded (tangent t))
-
-unfoldable pub smallAdj : Tangent → List (List Float)
-smallAdj t = Law.smallAdj rounded (tangent t)
-
--- a row times a tangent, and a matrix
-unfoldable pub dot : List Float → Tangent → Float
-dot r t = Rows.dot rounded r (Law.coeffs rounded (tangent t))
-
-unfoldable pub apply : List (List Float) → Tangent → Tangent
-apply m t = ofTangent (Law.applyTangent rounded m (tangent t))
-
-unfoldable pub lieBracket : Tangent → Tangent → Tangent
-lieBracket t u = ofTangent (Law.lieBracket rounded (tangent t) (tangent u))
-
--- ---- generators
--- the unit vector along axis i; zero from i = 3
-unfoldable pub axis : ℕ → Vec3
-axis i =
-    cond (eqb i 0) (Linear.identity .row0) (cond (eqb i 1) (Linear.identity .row1) (cond (eqb i 2) (Linear.identity .row2) Vectors.zero))
-
--- of place i of a tangent; the zero matrix from i = 10
-unfoldable pub generator : ℕ → List Float
-generator i =
-    cond (ltb i 3) (lieAlgebra (So3.generator 3) (axis i) Vectors.zero (rounded .zero))
-    (cond (ltb i 6) (lieAlgebra (So3.generator 3) Vectors.zero (axis (i - 3)) (rounded .zero))
-    (cond (eqb i 9) (lieAlgebra (So3.generator 3) Vectors.zero Vectors.zero (rounded .one))
-    (lieAlgebra (So3.generator (i - 6)) Vectors.zero Vectors.zero (rounded .zero))))

@@ -1,13 +1,14 @@
 -- The calls of SGal(3) that answer with a matrix, each with every refusal. Definitions only.
 use mathlib.Core.List.{List}
 use lib.Ieee.{Float}
+use Rattle.sgal3_algebra.specs.Algebra as Algebra
 use Rattle.sgal3_matrices.specs.Matrices as Matrices
-use Rattle.sgal3_blocks.specs.Inputs.{onElement, onElements, onElementAndVector, onTangent, checkElement, checkElements, checkElementAndVector, checkTangent}
-use Rattle.sgal3_matrix_blocks.specs.Answers.{matrix10Answer, refusedMatrix10, matrixAnswer, refusedMatrix, hatAnswer, refusedHat, actJacobianAnswer, refusedActJacobian}
-use Rattle.sgal3_matrix_blocks.specs.declared.Matrix10Answer.{Matrix10Answer}
-use Rattle.sgal3_matrix_blocks.specs.declared.MatrixAnswer.{MatrixAnswer}
-use Rattle.sgal3_matrix_blocks.specs.declared.HatAnswer.{HatAnswer}
-use Rattle.sgal3_matrix_blocks.specs.declared.ActJacobianAnswer.{ActJacobianAnswer}
+use Rattle.sgal3_inputs.specs.Inputs.{onElement, onElements, onElementAndVector, onTangent, checkElement, checkElements, checkElementAndVector, checkTangent}
+use Rattle.sgal3_answers.specs.Matrices.{matrix10Answer, refusedMatrix10, matrixAnswer, refusedMatrix, hatAnswer, refusedHat, actJacobianAnswer, refusedActJacobian}
+use Rattle.sgal3_answers.specs.declared.Matrix10Answer.{Matrix10Answer}
+use Rattle.sgal3_answers.specs.declared.MatrixAnswer.{MatrixAnswer}
+use Rattle.sgal3_answers.specs.declared.HatAnswer.{HatAnswer}
+use Rattle.sgal3_answers.specs.declared.ActJacobianAnswer.{ActJacobianAnswer}
 
 unfoldable pub matrix : List Float → MatrixAnswer
 matrix block = onElement refusedMatrix (λ a. matrixAnswer (Matrices.matrix a)) (checkElement block)
@@ -31,7 +32,7 @@ unfoldable pub actJacobianSelf : List Float → List Float → ActJacobianAnswer
 actJacobianSelf block vector = onElementAndVector refusedActJacobian (λ a p. actJacobianAnswer (Matrices.actJacobianSelf a p)) (checkElementAndVector block vector)
 
 unfoldable pub hat : List Float → HatAnswer
-hat tangent = onTangent refusedHat (λ t. hatAnswer (Matrices.hat t)) (checkTangent tangent)
+hat tangent = onTangent refusedHat (λ t. hatAnswer (Algebra.hat t)) (checkTangent tangent)
 
 unfoldable pub smallAdj : List Float → Matrix10Answer
-smallAdj tangent = onTangent refusedMatrix10 (λ t. matrix10Answer (Matrices.smallAdj t)) (checkTangent tangent)
+smallAdj tangent = onTangent refusedMatrix10 (λ t. matrix10Answer (Algebra.smallAdj t)) (checkTangent tangent)

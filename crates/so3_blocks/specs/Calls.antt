@@ -1,4 +1,4 @@
--- The calls on blocks of SO(3), each with every refusal. Definitions only.
+-- The calls on blocks of SO(3) that take a rotation, each with every refusal. Definitions only.
 use mathlib.Core.Bool.{cond}
 use mathlib.Core.List.{List, [], _∷_}
 use lib.Dec.{eqb}
@@ -8,18 +8,18 @@ use Rattle.checks.specs.Checks.{tolerance, checkUnitQuaternion}
 use Rattle.checks.specs.declared.Refusal.the-variants.{Length}
 use Rattle.linear.specs.Matrices as Matrices
 use Rattle.so3.specs.Elements as Elements
-use Rattle.so3.specs.Tangents as Tangents
-use Rattle.so3_blocks.specs.Answers.{elementAnswer, tangentAnswer, vectorAnswer, matrixAnswer, refusedMatrix}
-use Rattle.so3_blocks.specs.Inputs.{elementOf, onCheck, onElement, onElements, onElementAndVector, onTangent, onTangents, checkElement, checkElements, checkElementAndVector, checkTangent, checkTangents, checkLog, checkLogJacobian, checkExp}
-use Rattle.so3_blocks.specs.declared.Answer.{Answer}
-use Rattle.so3_blocks.specs.declared.Answer.the-variants.{Refused as Answer·Refused}
-use Rattle.so3_blocks.specs.declared.TangentAnswer.{TangentAnswer}
-use Rattle.so3_blocks.specs.declared.TangentAnswer.the-variants.{Refused as TangentAnswer·Refused}
-use Rattle.so3_blocks.specs.declared.VectorAnswer.{VectorAnswer}
-use Rattle.so3_blocks.specs.declared.VectorAnswer.the-variants.{Refused as VectorAnswer·Refused}
-use Rattle.so3_blocks.specs.declared.ValidAnswer.{ValidAnswer}
-use Rattle.so3_blocks.specs.declared.ValidAnswer.the-variants.{Done as ValidAnswer·Done, Refused as ValidAnswer·Refused}
-use Rattle.so3_blocks.specs.declared.MatrixAnswer.{MatrixAnswer}
+use Rattle.so3_answers.specs.Answers.{elementAnswer, tangentAnswer, vectorAnswer, matrixAnswer, refusedMatrix}
+use Rattle.so3_inputs.specs.Inputs.{elementOf, onCheck, onElement, onElements, onElementAndVector, checkElement, checkElements, checkElementAndVector}
+use Rattle.so3_turns.specs.Turns.{checkLog, checkLogJacobian}
+use Rattle.so3_answers.specs.declared.Answer.{Answer}
+use Rattle.so3_answers.specs.declared.Answer.the-variants.{Refused as Answer·Refused}
+use Rattle.so3_answers.specs.declared.TangentAnswer.{TangentAnswer}
+use Rattle.so3_answers.specs.declared.TangentAnswer.the-variants.{Refused as TangentAnswer·Refused}
+use Rattle.so3_answers.specs.declared.VectorAnswer.{VectorAnswer}
+use Rattle.so3_answers.specs.declared.VectorAnswer.the-variants.{Refused as VectorAnswer·Refused}
+use Rattle.so3_answers.specs.declared.ValidAnswer.{ValidAnswer}
+use Rattle.so3_answers.specs.declared.ValidAnswer.the-variants.{Done as ValidAnswer·Done, Refused as ValidAnswer·Refused}
+use Rattle.so3_answers.specs.declared.MatrixAnswer.{MatrixAnswer}
 
 -- the one call of four values instead of a block
 unfoldable pub tryFromQuaternionWxyz : Float → Float → Float → Float → Answer
@@ -73,33 +73,3 @@ adjoint block = onElement refusedMatrix (λ a. matrixAnswer (Elements.adjoint a)
 
 unfoldable pub normalize : List Float → Answer
 normalize block = onElement Answer·Refused (λ a. elementAnswer (Elements.normalize a)) (checkElement block)
-
-unfoldable pub exp : List Float → Answer
-exp tangent = onTangent Answer·Refused (λ t. elementAnswer (Tangents.exp t)) (checkExp tangent)
-
-unfoldable pub leftJacobian : List Float → MatrixAnswer
-leftJacobian tangent = onTangent refusedMatrix (λ t. matrixAnswer (Tangents.leftJacobian t)) (checkExp tangent)
-
-unfoldable pub rightJacobian : List Float → MatrixAnswer
-rightJacobian tangent = onTangent refusedMatrix (λ t. matrixAnswer (Tangents.rightJacobian t)) (checkExp tangent)
-
-unfoldable pub leftJacobianInv : List Float → MatrixAnswer
-leftJacobianInv tangent = onTangent refusedMatrix (λ t. matrixAnswer (Tangents.leftJacobianInv t)) (checkExp tangent)
-
-unfoldable pub rightJacobianInv : List Float → MatrixAnswer
-rightJacobianInv tangent = onTangent refusedMatrix (λ t. matrixAnswer (Tangents.rightJacobianInv t)) (checkExp tangent)
-
-unfoldable pub hat : List Float → MatrixAnswer
-hat tangent = onTangent refusedMatrix (λ t. matrixAnswer (Tangents.hat t)) (checkTangent tangent)
-
-unfoldable pub smallAdj : List Float → MatrixAnswer
-smallAdj tangent = onTangent refusedMatrix (λ t. matrixAnswer (Tangents.smallAdj t)) (checkTangent tangent)
-
-unfoldable pub lieBracket : List Float → List Float → TangentAnswer
-lieBracket left right = onTangents TangentAnswer·Refused (λ t u. tangentAnswer (Tangents.lieBracket t u)) (checkTangents left right)
-
-unfoldable pub normalizeTangent : List Float → TangentAnswer
-normalizeTangent tangent = onTangent TangentAnswer·Refused (λ t. tangentAnswer (Tangents.normalize t)) (checkTangent tangent)
-
-unfoldable pub normalizedTangent : List Float → TangentAnswer
-normalizedTangent tangent = onTangent TangentAnswer·Refused (λ t. tangentAnswer (Tangents.normalized t)) (checkTangent tangent)

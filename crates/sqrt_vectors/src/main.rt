@@ -1,98 +1,10 @@
 // Compares the square root with the stored roots in the file that the first argument names: pairs of little-endian words, a
 // pattern and the pattern of its root.
-ghost use mathlib.Core.Path.{_≡_};
-ghost use Prim.Native.Nat.{_+_, _/_, _^_, _≤_, _<_};
-ghost use mathlib.Core.Bool.{false};
-ghost use lib.Dec.{eqb};
-ghost use lib.ListN.{length};
-ghost use lib.Seq.{sets};
-ghost use Rattle.number.specs.Root.{squareRootBits};
-ghost use Rattle.sqrt_vectors.specs.Line.{patternLine};
-ghost use Rattle.sqrt_vectors.specs.Pairs.{wrong, wrongPairs};
 use libc::STDOUT_FILENO;
-
-// The root on patterns, by way of the f64.
-fn root_by_value(b: u64) -> u64
-    ensures { λ r. ⌜ r ≡ squareRootBits b ⌝ }
-{
-    words::to_bits(number::sqrt(words::of_bits(b)))
-}
-
-// Whether both functions give the stored root.
-fn is_root(b: u64, root: u64) -> bool
-    ensures { λ r. ⌜ r ≡ eqb (squareRootBits b) root ⌝ }
-{
-    if number::sqrt_bits(b) == root {
-        return root_by_value(b) == root;
-    }
-    false
-}
-
-// How many pairs were compared, how many of them are wrong, and the first of these; whether there is more to read, and whether
-// nothing went wrong so far.
-struct Tally {
-    compared: u64,
-    different: u64,
-    pattern: u64,
-    root: u64,
-    more: bool,
-    sound: bool,
-}
-
-// The tally with one pair more.
-fn with_pair(t: Tally, b: u64, root: u64) -> Tally
-    requires { ⌜ t .compared + 1 < 2 ^ 64 ⌝ }
-    requires { ⌜ t .different ≤ t .compared ⌝ }
-    ensures { λ r. ⌜ r .compared ≡ t .compared + 1 ⌝ }
-    ensures { λ r. ⌜ r .different ≡ t .different + wrong b root ⌝ }
-    ensures { λ r. ⌜ r .different ≤ r .compared ⌝ }
-{
-    let mut r = t;
-    r.compared += 1;
-    if is_root(b, root) {
-        return r;
-    }
-    r.different += 1;
-    if r.different == 1 {
-        r.pattern = b;
-        r.root = root;
-        return r;
-    }
-    r
-}
-
-// The tally with the pairs of s.
-fn with_pairs(t: Tally, s: &[u8]) -> Tally
-    requires { ⌜ t .compared + length (now s) / 16 < 2 ^ 64 ⌝ }
-    requires { ⌜ t .different ≤ t .compared ⌝ }
-    ensures { λ r. ⌜ r .compared ≡ t .compared + length (now (s .entry)) / 16 ⌝ }
-    ensures { λ r. ⌜ r .different ≡ t .different + wrongPairs (now (s .entry)) (length (now (s .entry)) / 16) ⌝ }
-    ensures { λ r. ⌜ r .different ≤ r .compared ⌝ }
-{
-    let pairs = s.len() / 16;
-    let mut r = t;
-    let mut i = 0usize;
-    while i < pairs {
-        let b = words::word(s, i * 16);
-        let root = words::word(s, i * 16 + 8);
-        r = with_pair(r, b, root);
-        i += 1;
-    }
-    r
-}
-
-// The tally at which reading stops because something went wrong.
-fn unsound(t: Tally) -> Tally
-    ensures { λ r. ⌜ r .compared ≡ t .compared ⌝ }
-    ensures { λ r. ⌜ r .different ≡ t .different ⌝ }
-    ensures { λ r. ⌜ r .more ≡ false ⌝ }
-    ensures { λ r. ⌜ r .sound ≡ false ⌝ }
-{
-    let mut r = t;
-    r.more = false;
-    r.sound = false;
-    r
-}
+use sqrt_pairs::Tally;
+ghost use mathlib.Core.Path.{_≡_};
+ghost use Prim.Native.Nat.{_+_, _^_, _≤_};
+ghost use mathlib.Core.Bool.{false};
 
 // The tally after a piece that was short. That does not say that the file has ended, since a read may have failed: the file is
 // asked for one byte more.
@@ -105,11 +17,11 @@ fn at_end(t: Tally, fd: i32, path: &[u8]) -> Tally
     let got = libc::read(fd, &mut byte);
     if got < 0 {
         os::fail(path);
-        return unsound(t);
+        return sqrt_pairs::unsound(t);
     }
     if got > 0 {
         io::write_all(STDOUT_FILENO, b"The file was not read to its end.\n");
-        return unsound(t);
+        return sqrt_pairs::unsound(t);
     }
     let mut r = t;
     r.more = false;
@@ -125,13 +37,13 @@ fn with_piece(t: Tally, fd: i32, path: &[u8]) -> Tally
 {
     let mut buf = io::large_buffer();
     let n = io::read_full(fd, &mut buf);
-    let r = with_pairs(t, &buf[..n]);
+    let r = sqrt_pairs::with_pairs(t, &buf[..n]);
     if n == 65536 {
         return r;
     }
     if n % 16 != 0 {
         io::write_all(STDOUT_FILENO, b"The file's length is no multiple of 16.\n");
-        return unsound(r);
+        return sqrt_pairs::unsound(r);
     }
     at_end(r, fd, path)
 }
@@ -154,30 +66,6 @@ fn compare_file(fd: i32, path: &[u8]) -> Tally
         pieces += 1;
     }
     t
-}
-
-// Puts the bytes into out from `at` on.
-fn put(out: &mut [u8], at: usize, bytes: &[u8])
-    requires { ⌜ at + length (now bytes) ≤ length (now out) ⌝ }
-    ensures { λ _. ⌜ now (out .exit) ≡ sets (now (out .entry)) at (now (bytes .entry)) ⌝ }
-{
-    let mut i = 0usize;
-    while i < bytes.len() {
-        out[at + i] = bytes[i];
-        i += 1;
-    }
-}
-
-// The line of a pattern: its name, and its bits in sixteen digits.
-fn pattern_line(name: &[u8; 28], b: u64) -> [u8; 45]
-    ensures { λ r. ⌜ r ≡ patternLine (now (name .entry)) b ⌝ }
-{
-    let mut digits = [0u8; 16];
-    let k = io::hex(b, 16, &mut digits);
-    let mut line = [b'\n'; 45];
-    put(&mut line, 0, name);
-    put(&mut line, 28, &digits[..k]);
-    line
 }
 
 fn main() {
@@ -211,10 +99,16 @@ fn main() {
     io::write_all(STDOUT_FILENO, b" differ\n");
     if t.different > 0 {
         let b = t.pattern;
-        let first = pattern_line(b"first pattern that differs: ", b);
-        let stored = pattern_line(b"its stored root:            ", t.root);
-        let by_bits = pattern_line(b"its root by sqrt_bits:      ", number::sqrt_bits(b));
-        let by_value = pattern_line(b"its root by sqrt:           ", root_by_value(b));
+        let first = sqrt_pairs::pattern_line(b"first pattern that differs: ", b);
+        let stored = sqrt_pairs::pattern_line(b"its stored root:            ", t.root);
+        let by_bits = sqrt_pairs::pattern_line(
+            b"its root by sqrt_bits:      ",
+            number::sqrt_bits(b),
+        );
+        let by_value = sqrt_pairs::pattern_line(
+            b"its root by sqrt:           ",
+            sqrt_pairs::root_by_value(b),
+        );
         io::write_all(STDOUT_FILENO, &first);
         io::write_all(STDOUT_FILENO, &stored);
         io::write_all(STDOUT_FILENO, &by_bits);

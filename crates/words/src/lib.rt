@@ -1,9 +1,11 @@
 // Eight little-endian bytes as a word, a word as a number, and back: every pattern is read, a NaN's too.
 ghost use mathlib.Core.Path.{_≡_};
+ghost use mathlib.Core.Bool.{true};
 ghost use Prim.Native.Nat.{_+_, _≤_};
 ghost use lib.ListN.{length};
 ghost use lib.Seq.{sets};
 ghost use lib.Ieee.{binary64, ofBits, toBits};
+ghost use lib.Ieee.Scale.{finite};
 ghost use Rattle.words.specs.Word.{joined, wordAt, valueAt, bytesOf};
 
 // The number of eight bytes, the lowest first.
@@ -63,6 +65,23 @@ pub fn value(s: &[u8], at: usize) -> f64
     ensures { λ r. ⌜ r ≡ valueAt (now (s .entry)) at ⌝ }
 {
     of_bits(word(s, at))
+}
+
+// Whether the number at s[at..at + 8] is finite.
+pub fn is_finite_at(s: &[u8], at: usize) -> bool
+    requires { ⌜ at + 8 ≤ length (now s) ⌝ }
+    ensures { λ r. ⌜ r ≡ finite (valueAt (now (s .entry)) at) ⌝ }
+{
+    number::is_finite_bits(word(s, at))
+}
+
+// The number at s[at..at + 8], which is finite: no test for a NaN.
+pub fn finite_value(s: &[u8], at: usize) -> f64
+    requires { ⌜ at + 8 ≤ length (now s) ⌝ }
+    requires { ⌜ finite (valueAt (now s) at) ≡ true ⌝ }
+    ensures { λ r. ⌜ r ≡ valueAt (now (s .entry)) at ⌝ }
+{
+    f64::from_bits(word(s, at))
 }
 
 // Stores a word at out[at..at + 8].

@@ -14,20 +14,21 @@ use Rattle.linear.specs.Quaternions.{rotate}
 use Rattle.linear.specs.declared.Vec3.{Vec3}
 use Rattle.linear.specs.declared.Quaternion.{Quaternion}
 use Rattle.so3_blocks.specs.Calls as Rotations
-use Rattle.so3_blocks.specs.declared.Answer.{Answer as RotationAnswer}
-use Rattle.so3_blocks.specs.declared.Answer.the-variants.{Done as RotationAnswer·Done, Refused as RotationAnswer·Refused}
-use Rattle.so3_blocks.specs.declared.TangentAnswer.{TangentAnswer}
-use Rattle.so3_blocks.specs.declared.TangentAnswer.the-variants.{Done as TangentAnswer·Done, Refused as TangentAnswer·Refused}
-use Rattle.so3_blocks.specs.declared.ValidAnswer.{ValidAnswer}
-use Rattle.so3_blocks.specs.declared.ValidAnswer.the-variants.{Done as ValidAnswer·Done, Refused as ValidAnswer·Refused}
-use Rattle.so3_blocks.specs.declared.MatrixAnswer.{MatrixAnswer}
-use Rattle.so3_blocks.specs.declared.VectorAnswer.{VectorAnswer}
-use Rattle.so3_blocks.specs.declared.VectorAnswer.the-variants.{Done as VectorAnswer·Done, Refused as VectorAnswer·Refused}
+use Rattle.so3_tangent_blocks.specs.Calls as RotationTangents
+use Rattle.so3_answers.specs.declared.Answer.{Answer as RotationAnswer}
+use Rattle.so3_answers.specs.declared.Answer.the-variants.{Done as RotationAnswer·Done, Refused as RotationAnswer·Refused}
+use Rattle.so3_answers.specs.declared.TangentAnswer.{TangentAnswer}
+use Rattle.so3_answers.specs.declared.TangentAnswer.the-variants.{Done as TangentAnswer·Done, Refused as TangentAnswer·Refused}
+use Rattle.so3_answers.specs.declared.ValidAnswer.{ValidAnswer}
+use Rattle.so3_answers.specs.declared.ValidAnswer.the-variants.{Done as ValidAnswer·Done, Refused as ValidAnswer·Refused}
+use Rattle.so3_answers.specs.declared.MatrixAnswer.{MatrixAnswer}
+use Rattle.so3_answers.specs.declared.VectorAnswer.{VectorAnswer}
+use Rattle.so3_answers.specs.declared.VectorAnswer.the-variants.{Done as VectorAnswer·Done, Refused as VectorAnswer·Refused}
 use Rattle.sgal3.specs.Elements as Elements
 use Rattle.sgal3.specs.Tangents as Tangents
 use Rattle.sgal3_blocks.specs.Calls as Galilean
-use Rattle.sgal3_blocks.specs.declared.TangentAnswer.{TangentAnswer as GalileanTangentAnswer}
-use Rattle.sgal3_blocks.specs.declared.TangentAnswer.the-variants.{Done as GalileanTangentAnswer·Done, Refused as GalileanTangentAnswer·Refused}
+use Rattle.sgal3_answers.specs.declared.TangentAnswer.{TangentAnswer as GalileanTangentAnswer}
+use Rattle.sgal3_answers.specs.declared.TangentAnswer.the-variants.{Done as GalileanTangentAnswer·Done, Refused as GalileanTangentAnswer·Refused}
 use Rattle.sgal3_composition.specs.Calls as Calls
 use Rattle.sgal3_composition.specs.declared.Answer.{Answer}
 use Rattle.sgal3_composition.specs.declared.Answer.the-variants.{Done, Refused}
@@ -142,16 +143,16 @@ benchList =
     ∷ says (answer (Calls.chain [])) (zero ∷ zero ∷ zero ∷ one ∷ zero ∷ zero ∷ zero ∷ zero ∷ zero ∷ zero ∷ zero ∷ [])
     ∷ says (answer (Calls.chain (A ++ B))) (ten ∷ three ∷ four ∷ one ∷ zero ∷ zero ∷ zero ∷ four ∷ two ∷ zero ∷ twoAndAHalf ∷ [])
     -- exp with theta (2 ^ -17, 0, 0): w = 1 - 2 ^ -37, x = 2 ^ -18 * (1 - 2 ^ -37); theta (2 ^ -16, 0, 0): 4
-    ∷ says (rotation (Rotations.exp (along-x 0x3ee0_0000_0000_0000))) (0x3fef_ffff_ffff_0000 ∷ 0x3ecf_ffff_ffff_0000 ∷ zero ∷ zero ∷ [])
-    ∷ says (rotation (Rotations.exp (along-x 0x3ef0_0000_0000_0000))) (4 ∷ [])
+    ∷ says (rotation (RotationTangents.exp (along-x 0x3ee0_0000_0000_0000))) (0x3fef_ffff_ffff_0000 ∷ 0x3ecf_ffff_ffff_0000 ∷ zero ∷ zero ∷ [])
+    ∷ says (rotation (RotationTangents.exp (along-x 0x3ef0_0000_0000_0000))) (4 ∷ [])
     -- log tests the half angle: (1, 2 ^ -17, 0, 0) is answered, and with w below zero by -2; its Jacobian tests the whole angle as well: 4, all +0
     ∷ says (tangent (Rotations.log (near one))) (0x3eef_ffff_fffc_0000 ∷ zero ∷ zero ∷ [])
     ∷ says (tangent (Rotations.log (near minusOne))) (0xbeef_ffff_fffc_0000 ∷ minusZero ∷ minusZero ∷ [])
     ∷ says (matrix (Rotations.logJacobian (near one))) (4 ∷ zero ∷ zero ∷ zero ∷ zero ∷ zero ∷ zero ∷ zero ∷ zero ∷ zero ∷ [])
     -- the left Jacobian, and the right one, its transpose
-    ∷ says (matrix (Rotations.leftJacobian (along-x 0x3ee0_0000_0000_0000)))
+    ∷ says (matrix (RotationTangents.leftJacobian (along-x 0x3ee0_0000_0000_0000)))
     (0 ∷ one ∷ zero ∷ zero ∷ zero ∷ one ∷ 0xbed0_0000_0000_0000 ∷ zero ∷ 0x3ed0_0000_0000_0000 ∷ one ∷ [])
-    ∷ says (matrix (Rotations.rightJacobian (along-x 0x3ee0_0000_0000_0000)))
+    ∷ says (matrix (RotationTangents.rightJacobian (along-x 0x3ee0_0000_0000_0000)))
     (0 ∷ one ∷ zero ∷ zero ∷ zero ∷ one ∷ 0x3ed0_0000_0000_0000 ∷ zero ∷ 0xbed0_0000_0000_0000 ∷ one ∷ [])
     -- is_valid of (2, 0, 0, 0) with 1e-6, and with an infinite tolerance: no
     ∷ says (valid (Rotations.isValid (floats (two ∷ zero ∷ zero ∷ zero ∷ [])) tolerance)) (0 ∷ [])

@@ -2,10 +2,11 @@
 //!
 //! All are called through a pointer to an `extern "C"` function. Rounds of the candidates alternate, and a figure is the median
 //! of its rounds. First all answers are compared, bit for bit.
+mod calls;
 mod plain;
 
 use handset::{Element, CHAIN_MOST, ELEMENT_BYTES};
-use plain::{Shared, Straight};
+use plain::{Shared, Source};
 use std::hint::black_box;
 use std::time::Instant;
 
@@ -41,9 +42,9 @@ const CANDIDATES: [Entries; 3] = [
         chain: sgal3_chain,
     },
     Entries {
-        compose: plain::compose::<Straight>,
-        inverse: plain::inverse::<Straight>,
-        chain: plain::chain::<Straight>,
+        compose: plain::compose::<Source>,
+        inverse: plain::inverse::<Source>,
+        chain: plain::chain::<Source>,
     },
     Entries {
         compose: plain::compose::<Shared>,
@@ -100,22 +101,29 @@ fn inverse_round(entries: &Entries, steps: &[Block], out: &mut Block) -> u32 {
 
 const ROUNDS: usize = 401;
 
-/// The median nanoseconds of a step of each candidate.
+fn median(mut list: Vec<f64>) -> f64 {
+    list.sort_by(f64::total_cmp);
+    list[list.len() / 2]
+}
+
+/// The median nanoseconds of a step of each candidate. A round of few steps is repeated until it has as many as the longest chain,
+/// so that the clock's own time does not show.
 fn times(round: Round, steps: &[Block]) -> [f64; CANDIDATES.len()] {
+    let repeats = CHAIN_MOST / steps.len();
     let mut rounds = CANDIDATES.map(|_| Vec::with_capacity(ROUNDS));
     let mut out = [0; ELEMENT_BYTES];
     for _ in 0..ROUNDS {
         for (entries, list) in CANDIDATES.iter().zip(&mut rounds) {
             let start = Instant::now();
-            let refused = round(black_box(entries), black_box(steps), black_box(&mut out));
-            list.push(start.elapsed().as_nanos() as f64 / steps.len() as f64);
+            let mut refused = 0;
+            for _ in 0..repeats {
+                refused += round(black_box(entries), black_box(steps), black_box(&mut out));
+            }
+            list.push(start.elapsed().as_nanos() as f64 / (repeats * steps.len()) as f64);
             assert_eq!(refused, 0, "a step of the benchmark was refused");
         }
     }
-    rounds.map(|mut list| {
-        list.sort_by(f64::total_cmp);
-        list[ROUNDS / 2]
-    })
+    rounds.map(median)
 }
 
 /// The answers of one candidate to all calls of the rounds: of the chain, of each compose, of each inverse.
@@ -198,6 +206,67 @@ fn steps(quaternion: fn(&mut Random) -> [f64; 4]) -> Vec<Block> {
     (0..CHAIN_MOST).map(step).collect()
 }
 
+/// Blocks for exp, log and adjoint: their turns are small enough to be answered.
+fn blocks(call: u64) -> Vec<Vec<f64>> {
+    let mut g = Random(2);
+    let block = |_| {
+        let mut values = |count: usize, size: f64| -> Vec<f64> {
+            (0..count).map(|_| size * g.small()).collect()
+        };
+        let (first, second, last) = (values(3, 1.0), values(3, 1.0), values(1, 0.01));
+        match call {
+            calls::EXP => [first, second, values(3, 5e-6), last].concat(),
+            calls::LOG => [first, vec![1.0], values(3, 2e-6), second, last].concat(),
+            _ => [first, unit(&mut g).to_vec(), second, last].concat(),
+        }
+    };
+    (0..CHAIN_MOST).map(block).collect()
+}
+
+fn call_round(
+    answer: calls::Answer,
+    call: u64,
+    blocks: &[Vec<f64>],
+    out: &mut [u8; calls::OUTCOME],
+) -> usize {
+    let one = |block: &Vec<f64>| {
+        // SAFETY: the pointer is that of as many values as its length says; there is no second block, and a vector's pointer
+        // is not null.
+        unsafe { answer(call, block.as_ptr(), block.len(), block.as_ptr(), 0, 0, out) }
+    };
+    blocks.iter().map(one).sum()
+}
+
+/// The median nanoseconds of a call, the library's and the source's, after their outcomes were compared.
+fn call_times(call: u64) -> [f64; 2] {
+    let candidates: [calls::Answer; 2] = [calls::request_answer, calls::source_answer];
+    let blocks = blocks(call);
+    for block in &blocks {
+        let [ours, theirs] = candidates.map(|answer| {
+            let mut out = [0; calls::OUTCOME];
+            let count = call_round(answer, call, std::slice::from_ref(block), &mut out);
+            assert_eq!(out[0], 0, "a call of the benchmark was refused");
+            out[..count].to_vec()
+        });
+        assert!(ours == theirs, "call {call} differs");
+    }
+    let mut rounds = candidates.map(|_| Vec::with_capacity(ROUNDS));
+    let mut out = [0; calls::OUTCOME];
+    for _ in 0..ROUNDS {
+        for (answer, list) in candidates.iter().zip(&mut rounds) {
+            let start = Instant::now();
+            black_box(call_round(
+                *black_box(answer),
+                call,
+                black_box(&blocks),
+                black_box(&mut out),
+            ));
+            list.push(start.elapsed().as_nanos() as f64 / blocks.len() as f64);
+        }
+    }
+    rounds.map(median)
+}
+
 fn main() {
     let classes = [
         ("normalised twice", steps(unit)),
@@ -206,33 +275,78 @@ fn main() {
     ];
     let mut compared = 0;
     for (name, steps) in &classes {
-        let [ours, straight, shared] = CANDIDATES.map(|entries| answers(&entries, steps));
+        let [ours, source, shared] = CANDIDATES.map(|entries| answers(&entries, steps));
         assert!(
             ours.iter().all(|(number, _)| *number == 0),
             "{name}: refused"
         );
-        assert!(ours == straight, "{name}: straight differs");
+        assert!(ours == source, "{name}: source differs");
         assert!(ours == shared, "{name}: shared differs");
         compared += ours.len();
     }
     println!("{compared} answers of each are the same, bit for bit.\n");
 
+    entry_table(&classes);
+    println!();
+    chain_table(&classes);
+    println!();
+    call_table();
+}
+
+type Class = (&'static str, Vec<Block>);
+
+/// The table of the entries.
+fn entry_table(classes: &[Class]) {
     println!(
-        "| quaternions | call | library, ns | straight, ns | shared, ns | library / straight | library / shared |"
+        "| quaternions | call | library, ns | source, ns | shared, ns | library / source | library / shared |"
     );
     println!("|---|---|---:|---:|---:|---:|---:|");
-    for (name, steps) in &classes {
+    for (name, steps) in classes {
         for (call, round) in [
             ("chain, per step", chain_round as Round),
             ("compose", compose_round),
             ("inverse", inverse_round),
         ] {
-            let [ours, straight, shared] = times(round, steps);
+            let [ours, source, shared] = times(round, steps);
             println!(
-                "| {name} | {call} | {ours:.1} | {straight:.1} | {shared:.1} | {:.2} | {:.2} |",
-                ours / straight,
+                "| {name} | {call} | {ours:.1} | {source:.1} | {shared:.1} | {:.2} | {:.2} |",
+                ours / source,
                 ours / shared
             );
         }
+    }
+}
+
+/// The table of chains of more and more blocks.
+fn chain_table(classes: &[Class]) {
+    println!(
+        "| quaternions | blocks | library, ns a block | shared, ns a block | library / shared |"
+    );
+    println!("|---|---:|---:|---:|---:|");
+    for (name, steps) in classes {
+        for blocks in [1, 16, 256, CHAIN_MOST] {
+            let [ours, _, shared] = times(chain_round, &steps[..blocks]);
+            println!(
+                "| {name} | {blocks} | {ours:.1} | {shared:.1} | {:.2} |",
+                ours / shared
+            );
+        }
+    }
+}
+
+/// The table of exp, log and adjoint.
+fn call_table() {
+    println!("| call | library, ns | source, ns | library / source |");
+    println!("|---|---:|---:|---:|");
+    for (name, call) in [
+        ("exp", calls::EXP),
+        ("log", calls::LOG),
+        ("adjoint", calls::ADJOINT),
+    ] {
+        let [ours, theirs] = call_times(call);
+        println!(
+            "| {name} | {ours:.1} | {theirs:.1} | {:.2} |",
+            ours / theirs
+        );
     }
 }

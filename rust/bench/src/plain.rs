@@ -1,6 +1,9 @@
-//! The three calls in plain Rust, with the machine's square root, behind functions of the C entries' signatures.
+//! The three calls in Rust, with the machine's square root, behind functions of the C entries' signatures: the source's own functions, and
+//! plain Rust.
 //!
 //! Checks and operations are in the same order as in the library, so the answers have the same bits.
+use apex::sgal3::SGal3;
+use apex::LieGroup;
 use handset::{CHAIN_MOST, ELEMENT_BYTES};
 
 #[derive(Clone, Copy)]
@@ -131,6 +134,24 @@ const IDENTITY: Motion = Motion {
 };
 
 impl Motion {
+    fn of(values: &[f64; 11]) -> Motion {
+        let [t0, t1, t2, w, x, y, z, v0, v1, v2, time] = *values;
+        Motion {
+            translation: Vector {
+                x: t0,
+                y: t1,
+                z: t2,
+            },
+            rotation: Quaternion { w, x, y, z },
+            velocity: Vector {
+                x: v0,
+                y: v1,
+                z: v2,
+            },
+            time,
+        }
+    }
+
     fn values(self) -> [f64; 11] {
         let Motion {
             translation: t,
@@ -142,66 +163,36 @@ impl Motion {
     }
 }
 
-/// How the group's operations are written.
+/// Whose operations of the group are timed.
 pub trait Way {
     fn compose(a: Motion, b: Motion) -> Motion;
     fn inverse(a: Motion) -> Motion;
 }
 
-/// As the Rust source has it: the rotation is normalised when it is taken out of the element, and again by each call on it.
-pub struct Straight;
+/// The Rust source's own functions, over a stand-in for nalgebra.
+pub struct Source;
 
-/// A quaternion is normalised as often, and all calls share the result.
+/// Plain Rust: a quaternion is normalised as often as in the source, and all calls of one compose share the result.
 pub struct Shared;
 
-/// SO3 of the Rust source. Its calls stay functions of their own, as rustc leaves them there: inlined, their normalisations
-/// would be merged, and `Straight` would be `Shared`.
-struct Rotation(Quaternion);
-
-impl Rotation {
-    fn of(a: &Motion) -> Rotation {
-        Rotation(a.rotation.normalize())
-    }
-
-    #[inline(never)]
-    fn compose(&self, other: &Rotation) -> Quaternion {
-        self.0.normalize().mul(other.0.normalize())
-    }
-
-    #[inline(never)]
-    fn inverse(&self) -> Rotation {
-        Rotation(self.0.normalize().conjugate())
-    }
-
-    #[inline(never)]
-    fn act(&self, p: Vector) -> Vector {
-        self.0.normalize().rotate(p)
-    }
-}
-
-impl Way for Straight {
+impl Way for Source {
     fn compose(a: Motion, b: Motion) -> Motion {
-        let turn = Rotation::of(&a);
-        Motion {
-            translation: turn
-                .act(b.translation)
-                .add(a.translation)
-                .add(a.velocity.scale(b.time)),
-            rotation: turn.compose(&Rotation::of(&b)),
-            velocity: turn.act(b.velocity).add(a.velocity),
-            time: a.time + b.time,
-        }
+        let (a, b) = (source(a), source(b));
+        motion(&a.compose(&b, None, None))
     }
 
     fn inverse(a: Motion) -> Motion {
-        let turn = Rotation::of(&a).inverse();
-        Motion {
-            translation: turn.act(a.translation.sub(a.velocity.scale(a.time))).neg(),
-            rotation: turn.0,
-            velocity: turn.act(a.velocity).neg(),
-            time: -a.time,
-        }
+        motion(&source(a).inverse(None))
     }
+}
+
+fn source(a: Motion) -> SGal3 {
+    SGal3::from_param_slice(&a.values())
+}
+
+fn motion(a: &SGal3) -> Motion {
+    let values = a.as_param_slice().first_chunk();
+    Motion::of(values.expect("an element has eleven values"))
 }
 
 impl Way for Shared {
@@ -248,7 +239,7 @@ fn check(block: &[u8]) -> Answer {
     if !all_finite(&values) {
         return Err(2);
     }
-    let [t0, t1, t2, w, x, y, z, v0, v1, v2, time] = values;
+    let [_, _, _, w, x, y, z, ..] = values;
     let norm = (w * w + x * x + y * y + z * z).sqrt();
     if !norm.is_finite() {
         return Err(2);
@@ -256,20 +247,7 @@ fn check(block: &[u8]) -> Answer {
     if (norm - 1.0).abs() > 1e-6 {
         return Err(3);
     }
-    Ok(Motion {
-        translation: Vector {
-            x: t0,
-            y: t1,
-            z: t2,
-        },
-        rotation: Quaternion { w, x, y, z },
-        velocity: Vector {
-            x: v0,
-            y: v1,
-            z: v2,
-        },
-        time,
-    })
+    Ok(Motion::of(&values))
 }
 
 fn unless_overflow(a: Motion) -> Answer {

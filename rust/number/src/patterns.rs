@@ -31,13 +31,16 @@ impl Random {
 /// A draw gives some patterns that belong together, as the two beside a boundary.
 pub type Draw = fn(&mut Random) -> Vec<u64>;
 
-pub const KINDS: [(&str, Draw); 9] = [
+pub const KINDS: [(&str, Draw); 12] = [
     ("any pattern", any),
     ("normal", normal),
     ("subnormal", subnormal),
     ("beside a square", beside_square),
     ("near 1", near_one),
     ("border of the near form", near_border),
+    ("within 2^32 patterns of 1", square_shows),
+    ("border of the second near form", square_border),
+    ("beside a step of the second near form", beside_step),
     ("beside a midpoint", beside_midpoint),
     ("nearest to a midpoint", nearest_to_midpoint),
     ("NaN or below zero", no_root),
@@ -74,6 +77,27 @@ pub fn near_one(g: &mut Random) -> Vec<u64> {
 pub fn near_border(g: &mut Random) -> Vec<u64> {
     let distance = (1 << 26) - 8 + g.below(17);
     vec![ONE + distance, ONE - distance]
+}
+
+/// A number within 2^32 patterns of 1, where the square of the distance shows.
+pub fn square_shows(g: &mut Random) -> Vec<u64> {
+    let distance = g.below(1 << 32);
+    vec![ONE + distance, ONE - distance]
+}
+
+/// A number within 8 patterns of the distance 2^31 from 1, where the second form for numbers near 1 ends.
+pub fn square_border(g: &mut Random) -> Vec<u64> {
+    let distance = (1 << 31) - 8 + g.below(17);
+    vec![ONE + distance, ONE - distance]
+}
+
+/// A number whose distance from 1 has a square, doubled above 1, that is nearly a multiple of 2^55: the later terms of the
+/// root's series could show.
+pub fn beside_step(g: &mut Random) -> Vec<u64> {
+    let multiple = (1 + g.below(127)) << 55;
+    let above = (multiple as f64 / 2.0).sqrt() as u64 + g.below(8193) - 4096;
+    let below = (multiple as f64).sqrt() as u64 + g.below(8193) - 4096;
+    vec![ONE + above, ONE - below]
 }
 
 /// The two numbers beside the square of q + 1/2, for a random q of 53 binary digits, times a power of four.

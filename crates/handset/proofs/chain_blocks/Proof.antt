@@ -1,52 +1,32 @@
--- `handset::chain_blocks` meets its contract: what is left of the chain, composed with what is held, gives the answer. Assumes nothing.
-use Prim.Native.Nat.{_+_, _*_, _/_, _≤_}
-use mathlib.Core.Path.{_≡_, sym, _∙_}
-use native.Mathlib.Omega.{arith}
+-- `handset::chain_blocks` meets its contract. Assumes nothing.
+use mathlib.Core.Path.{sym, _∙_}
 use borrow.Author.Needs.{needs}
-use lib.ListN.{length}
-use Rattle.sgal3_composition.specs.Calls as Calls
-use Rattle.handset.specs.Blocks as Blocks
-use Rattle.handset.proofs.ByteBlocks.{next, end}
+use native.Mathlib.Omega.{arith}
+use Rattle.checks.proofs.Passed.{passed-finite}
+use Rattle.handset.proofs.ByteBlocks.{after-passed, after-refused}
 use Rattle.handset.proofs.chain_blocks.Statement.{statement}
 use Rattle.handset.proofs.chain_blocks.Tie as tie
 
-abbrev Inv-loop : tie.InvT-loop
-Inv-loop s left₀ at₀ held₀ left at held =
-    (at + left * 88 ≤ length s) × (Blocks.chainBlocks (length s / 88) s ≡ Calls.chainFrom held left (Blocks.valuesAt (left * 11) s at))
+element-requires : tie.Need-element-requires
+element-requires c κs = (omega (arith, c .before .before .before .before .before .pre), passed-finite _ 11 3 _ (sym (c .before .before .check-values .ensures) ∙ c .enum-told .given .1))
 
-abbrev μ-loop : tie.MeasureT-loop
-μ-loop s left₀ at₀ held₀ left at held = left
-
-loop-holds : tie.Need-loop-holds Inv-loop μ-loop
-unfolding Blocks.chainBlocks Calls.chainBlocks
-loop-holds c = (omega arith, rw (c .identity .ensures))
-
-loop-again : tie.Need-loop-again Inv-loop μ-loop
-loop-again c =
-    let l = c .before .before .before .loop in (
-      omega arith,
-      l .inv .1
-          ∙ next (l .held) (l .left) _ (l .at) (omega arith)
-          ∙ rw (c .compose-answers .ensures, c .before .check-at .ensures),
-    )
-
-returns : tie.Need-returns Inv-loop μ-loop
+returns : tie.Need-returns
 returns c =
-    let l = c .before .loop in
-    sym (l .inv .1 ∙ end (l .held) (l .left) _ (l .at) (omega arith))
+    rw (c .compose-blocks .ensures, c .before .element .ensures)
+    (after-passed _ _ _ (sym (c .before .before .before .before .check-values .ensures) ∙ c .before .before .enum-told .given .1))
+
+returns-2 : tie.Need-returns-2
+returns-2 c = c .earliest .ensures ∙ after-refused _ _ _ _ (sym (c .before .before .before .before .check-values .ensures) ∙ c .before .before .r .given .1)
 
 pub chain-blocks-spec : {M : Type 1} → statement M
 chain-blocks-spec =
     tie.close
     (tie.spec
-    Inv-loop
-    μ-loop
     (λ c κs. search needs)
-    loop-holds
-    (λ c κs. omega arith)
+    (λ c. search needs)
+    element-requires
     (λ c κs. search needs)
-    (λ c. omega arith)
-    (λ c. omega arith)
-    (λ c. omega arith)
-    loop-again
-    returns)
+    (λ c. search needs)
+    (λ c κs. search needs)
+    returns
+    returns-2)

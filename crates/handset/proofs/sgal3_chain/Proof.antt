@@ -1,7 +1,9 @@
 -- `handset::sgal3_chain` meets its contract. Assumes nothing.
+use mathlib.Core.Path.{sym, _∙_}
 use borrow.Author.Needs.{needs}
 use Rattle.handset.specs.Entries as Entries
-use Rattle.handset.proofs.Outputs.{refused-output, taken-output}
+use Rattle.handset.proofs.Outputs.{refused-output, refused-length, taken-output}
+use Rattle.handset.proofs.Chains.{after-identity, too-long, not-whole, whole-blocks}
 use Rattle.handset.proofs.sgal3_chain.Statement.{statement}
 use Rattle.handset.proofs.sgal3_chain.Tie as tie
 
@@ -11,7 +13,16 @@ returns c = refused-output _ _ (c .if1 .taken)
 
 returns-2 : tie.Need-returns-2
 unfolding Entries.chain
-returns-2 c = taken-output _ _ _ _ _ (c .before .before .before .before .before .if1 .left) (c .before .before .before .before .chain .ensures) (c .before .before .finish .ensures)
+returns-2 c = refused-length _ _ _ _ (c .before .if1 .left) (too-long _ _ (c .if2 .taken))
+
+returns-3 : tie.Need-returns-3
+unfolding Entries.chain
+returns-3 c = refused-length _ _ _ _ (c .before .before .if1 .left) (not-whole _ _ (c .before .if2 .left) (c .if3 .taken))
+
+returns-4 : tie.Need-returns-4
+unfolding Entries.chain
+returns-4 c =
+    taken-output _ _ _ _ _ (c .before .before .before .before .before .before .before .if1 .left) (after-identity _ _ ∙ sym (whole-blocks _ _ (c .before .before .before .before .before .before .if2 .left) (c .before .before .before .before .before .if3 .left))) (c .before .before .store-chain .ensures)
 
 pub sgal3-chain-spec : {M : Type 1} → statement M
-sgal3-chain-spec = tie.close (tie.spec returns (λ c κs. search needs) (λ c κs. search needs) (λ c. search needs) returns-2)
+sgal3-chain-spec = tie.close (tie.spec returns returns-2 returns-3 (λ c. search needs) (λ c κs. search needs) (λ c. search needs) returns-4)

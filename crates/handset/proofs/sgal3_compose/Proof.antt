@@ -1,7 +1,8 @@
 -- `handset::sgal3_compose` meets its contract. Assumes nothing.
 use borrow.Author.Needs.{needs}
 use Rattle.handset.specs.Entries as Entries
-use Rattle.handset.proofs.Outputs.{refused-output, taken-output}
+use Rattle.handset.proofs.Outputs.{refused-output, refused-left, refused-right, taken-output}
+use Rattle.handset.proofs.Chains.{one-block}
 use Rattle.handset.proofs.sgal3_compose.Statement.{statement}
 use Rattle.handset.proofs.sgal3_compose.Tie as tie
 
@@ -11,7 +12,15 @@ returns c = refused-output _ _ (c .if1 .taken)
 
 returns-2 : tie.Need-returns-2
 unfolding Entries.compose
-returns-2 c = taken-output _ _ _ _ _ (c .before .before .before .before .before .before .before .if1 .left) (rw (c .before .before .before .before .compose-answers .ensures, c .before .before .before .before .before .check-block2 .ensures, c .before .before .before .before .before .before .check-block .ensures)) (c .before .before .finish .ensures)
+returns-2 c = refused-left _ _ _ (c .before .if1 .left) (c .if2 .taken)
+
+returns-3 : tie.Need-returns-3
+unfolding Entries.compose
+returns-3 c = refused-right _ _ _ (c .before .before .if1 .left) (c .if3 .taken)
+
+returns-4 : tie.Need-returns-4
+unfolding Entries.compose
+returns-4 c = taken-output _ _ _ _ _ (c .before .before .before .before .before .before .if1 .left) (one-block _ _ (c .before .before .before .before .before .if2 .left) (c .before .before .before .before .if3 .left)) (c .before .before .store-chain .ensures)
 
 pub sgal3-compose-spec : {M : Type 1} → statement M
-sgal3-compose-spec = tie.close (tie.spec returns (λ c κs. search needs) (λ c κs. search needs) (λ c κs. search needs) (λ c κs. search needs) (λ c. search needs) returns-2)
+sgal3-compose-spec = tie.close (tie.spec returns returns-2 returns-3 (λ c κs. search needs) (λ c. search needs) returns-4)

@@ -33,8 +33,14 @@ add-result c =
 returns : tie.Need-returns
 returns c = c .root-bits-near-one .ensures
 
+root-bits-by-square-requires : tie.Need-root-bits-by-square-requires
+root-bits-by-square-requires c κs = (omega arith, (omega arith, (c .before .before .square-term .ensures, c .before .is-clear .ensures (c .if5 .taken))))
+
 returns-2 : tie.Need-returns-2
-returns-2 c = root-bits (c .before .before .before .args .b) (c .before .split .result) (c .nearest-root .result) (c .before .split .ensures) (near c)
+returns-2 c = c .root-bits-by-square .ensures
+
+returns-3 : tie.Need-returns-3
+returns-3 c = root-bits _ (c .before .split .result) (c .nearest-root .result) (c .before .split .ensures) (near c)
 
 pub root-bits-spec : {M : Type 1} → statement M
 root-bits-spec =
@@ -43,9 +49,13 @@ root-bits-spec =
     (λ c κs. search needs)
     returns
     (λ c κs. search needs)
+    (λ c κs. search needs)
+    root-bits-by-square-requires
+    returns-2
+    (λ c κs. search needs)
     (λ c. search needs)
     nearest-root-requires
     (λ c. search needs)
     (λ c. search needs)
     add-result
-    returns-2)
+    returns-3)

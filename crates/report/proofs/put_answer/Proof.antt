@@ -2,7 +2,7 @@
 use mathlib.Core.Path.{refl}
 use borrow.Author.Needs.{needs}
 use Rattle.report.specs.Text.{text}
-use Rattle.report.proofs.Lines.{answer-length, number-below}
+use Rattle.report.proofs.Printed.{answer-length, number-below}
 use Rattle.report.proofs.put_answer.Statement.{statement}
 use Rattle.report.proofs.put_answer.Tie as tie
 

@@ -2,7 +2,7 @@
 use denote.Ref.{now}
 use borrow.Author.Needs.{needs}
 use Rattle.report.specs.Text.{reportOf}
-use Rattle.report.proofs.Lines.{written}
+use Rattle.report.proofs.Printed.{written}
 use Rattle.report.proofs.report.Statement.{statement}
 use Rattle.report.proofs.report.Tie as tie
 

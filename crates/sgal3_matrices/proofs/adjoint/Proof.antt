@@ -1,6 +1,7 @@
 -- `sgal3_matrices::adjoint` meets its contract. Assumes nothing.
 use mathlib.Core.Path.{refl}
 use borrow.Author.Needs.{needs}
+use Rattle.sgal3_rows.specs.TenRows as TenRows
 use Rattle.sgal3_matrices.specs.Matrices as Matrices
 use Rattle.sgal3.specs.Elements as Elements
 use Rattle.linear.specs.Matrices as Linear
@@ -20,7 +21,7 @@ returns c = rw (
   c .before .before .before .before .before .before .hat .ensures,
   c .before .before .before .before .before .before .before .scale .ensures,
   c .before .before .before .before .before .before .before .before .before .before .rotation-matrix .ensures,
-) (unfold Matrices.adjoint Matrices.byBlocks Elements.rotationMatrix Linear.scale Linear.hat Linear.sub Linear.mul Law.adjoint Law.adjointAt Law.rotationMatrix Rotation.rotationMatrix in refl)
+) (unfold Matrices.adjoint TenRows.byBlocks Elements.rotationMatrix Linear.scale Linear.hat Linear.sub Linear.mul Law.adjoint Law.adjointAt Law.rotationMatrix Rotation.rotationMatrix in refl)
 
 pub adjoint-spec : {M : Type 1} → statement M
 adjoint-spec =

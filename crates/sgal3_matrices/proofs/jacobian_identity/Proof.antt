@@ -1,6 +1,7 @@
 -- `sgal3_matrices::jacobian_identity` meets its contract. Assumes nothing.
 use mathlib.Core.Path.{refl}
 use borrow.Author.Needs.{needs}
+use Rattle.sgal3_rows.specs.TenRows as TenRows
 use Rattle.sgal3_matrices.specs.Matrices as Matrices
 use Rattle.linear.specs.Matrices as Linear
 use Rattle.linear.specs.Vectors as Vectors
@@ -13,7 +14,7 @@ returns c = rw (
   c .by-blocks .ensures,
   c .before .identity .ensures,
   c .before .before .zero .ensures,
-) (unfold Matrices.jacobianIdentity Matrices.byBlocks Linear.identity Vectors.zero Law.jacobianIdentity in refl)
+) (unfold Matrices.jacobianIdentity TenRows.byBlocks Linear.identity Vectors.zero Law.jacobianIdentity in refl)
 
 pub jacobian-identity-spec : {M : Type 1} → statement M
 jacobian-identity-spec =

@@ -1,0 +1,30 @@
+-- `handset::store_chain` meets its contract. Assumes nothing.
+use mathlib.Core.Path.{ap, _∙_}
+use borrow.Author.Needs.{needs}
+use lib.ListN.{length}
+use Rattle.handset.proofs.ByteBlocks.{whole, whole-chain}
+use Rattle.handset.proofs.store_chain.Statement.{statement}
+use Rattle.handset.proofs.store_chain.Tie as tie
+
+chain-blocks-requires : tie.Need-chain-blocks-requires
+chain-blocks-requires c κs = ap length (whole (c .before .before .before .before .before .args .first .now)) ∙ c .before .before .before .before .before .pre .0
+
+returns : tie.Need-returns
+returns c =
+    let start = c .before .before .before .before .before .before .before .before .before .before in
+    rw (← whole-chain (start .args .first .now) (start .args .blocks .now), ← c .before .before .before .before .chain-blocks .ensures) (c .before .before .finish .ensures)
+
+pub store-chain-spec : {M : Type 1} → statement M
+store-chain-spec =
+    tie.close
+    (tie.spec
+    (λ c. search needs)
+    (λ c. search needs)
+    (λ c. search needs)
+    (λ c. search needs)
+    (λ c. search needs)
+    (λ c. search needs)
+    chain-blocks-requires
+    (λ c κs. search needs)
+    (λ c. search needs)
+    returns)
