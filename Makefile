@@ -34,9 +34,11 @@ WITHOUT = { echo "NOT RUN: $@: there is no $(1) here"; [ "$$CI" != true ]; }
 # What rt prints is shown only where it fails.
 QUIETLY = mkdir -p target && $(1) > target/$@.log 2>&1 || { cat target/$@.log; exit 1; }
 
+# What cargo is needed for: rustc links with cc.
+WITH_CARGO = if ! command -v cargo > /dev/null; then $(call WITHOUT,cargo); \
+	elif ! command -v cc > /dev/null; then $(call WITHOUT,cc for rustc to link with); else $(1); fi
 # What is needed to run the Rust source itself.
-WITH_SOURCE = if ! command -v cargo > /dev/null; then $(call WITHOUT,cargo); \
-	elif ! [ -d "$$APEX_SRC" ]; then $(call WITHOUT,Rust source (APEX_SRC names its folder)); else $(1); fi
+WITH_SOURCE = if ! [ -d "$$APEX_SRC" ]; then $(call WITHOUT,Rust source (APEX_SRC names its folder)); else $(call WITH_CARGO,$(1)); fi
 
 .PHONY: run test test-built toolchain-check format-check lib test-rust test-c vectors-check cases-check sample-check \
 	test-reference compare compare-sqrt compare-calls compare-entries valgrind-entries conformance bench bench-sqrt \
@@ -72,9 +74,7 @@ lib:
 	@mkdir -p target/lib && cp target/staticlib/libhandset.a include/handset.h target/lib/
 
 test-rust: lib
-	@if command -v cargo > /dev/null; then \
-	    $(CARGO) test --target-dir target/cargo --manifest-path rust/handset/Cargo.toml; \
-	else $(call WITHOUT,cargo); fi
+	@$(call WITH_CARGO,$(CARGO) test --target-dir target/cargo --manifest-path rust/handset/Cargo.toml)
 
 # The library needs no other, not even C's own.
 test-c: lib
@@ -90,17 +90,14 @@ test-c: lib
 	else $(call WITHOUT,g++); fi
 
 vectors-check:
-	@if command -v cargo > /dev/null; then \
-	    mkdir -p target && $(CARGO) run --release $(NUMBER) --bin sqrt_vectors > target/vectors && cmp target/vectors $(VECTORS); \
-	else $(call WITHOUT,cargo); fi
+	@$(call WITH_CARGO,mkdir -p target && $(CARGO) run --release $(NUMBER) --bin sqrt_vectors > target/vectors && \
+	    cmp target/vectors $(VECTORS))
 
 # Neither the sources nor the proofs of the two programs are the generator's.
 cases-check:
-	@if command -v cargo > /dev/null; then \
-	    rm -rf target/cases && $(CASES) target/cases && \
+	@$(call WITH_CARGO,rm -rf target/cases && $(CASES) target/cases && \
 	    diff -r -x src -x proofs target/cases/chain crates/chain && \
-	    diff -r -x src -x proofs target/cases/chain_cases crates/chain_cases; \
-	else $(call WITHOUT,cargo); fi
+	    diff -r -x src -x proofs target/cases/chain_cases crates/chain_cases)
 
 sample-check:
 	@$(call WITH_SOURCE,mkdir -p target && $(CARGO) run $(REFERENCE) --bin sample -- target/sample-requests target/sample-answers \
@@ -119,9 +116,7 @@ conformance:
 compare: compare-sqrt compare-entries compare-calls
 
 compare-sqrt: number-lib
-	@if command -v cargo > /dev/null; then \
-	    $(CARGO) run --release $(NUMBER) --bin sqrt_compare -- --seed $(SEED) --count 1000000; \
-	else $(call WITHOUT,cargo); fi
+	@$(call WITH_CARGO,$(CARGO) run --release $(NUMBER) --bin sqrt_compare -- --seed $(SEED) --count 1000000)
 
 compare-calls: conformance
 	@$(call WITH_SOURCE,$(CARGO) run $(REFERENCE) --bin compare -- target/bin/conformance --seed $(SEED) \

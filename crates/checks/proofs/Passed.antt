@@ -7,7 +7,7 @@ use native.Mathlib.Omega.{arith}
 use lib.Dec.{T, eqb, eqb→eq}
 use lib.ListN.{length}
 use lib.Ieee.{Float}
-use Rattle.checks.specs.Checks.{tolerance, allFinite, checkValues, next, checkParamBlock, both, validateSo3Params}
+use Rattle.checks.specs.Checks.{tolerance, allFinite, checkValues, next, checkParamBlock, both, validateSo3Params, validateSgal3Params}
 use Rattle.checks.specs.declared.Refusal.the-variants.{Length, NotFinite}
 use Rattle.checks.specs.declared.Check.{Check}
 use Rattle.checks.specs.declared.Check.the-variants.{Passed, Refused}
@@ -63,3 +63,7 @@ passed-right (Refused r) (Refused s) e = never e
 pub passed-so3 : (s : List Float) → validateSo3Params s ≡ Passed → length s ≡ 4
 unfolding validateSo3Params
 passed-so3 s = passed-length s 4 0 tolerance
+
+pub passed-sgal3 : (s : List Float) → validateSgal3Params s ≡ Passed → length s ≡ 11
+unfolding validateSgal3Params
+passed-sgal3 s = passed-length s 11 3 tolerance

@@ -22,7 +22,8 @@ use Rattle.words.specs.Word.{valueAt}
 use Rattle.sgal3_composition.specs.Calls.{checkElement, elementAnswer, firstRefusal, composeAnswers, chainFrom}
 use Rattle.sgal3_composition.specs.declared.Answer.{Answer}
 use Rattle.sgal3_composition.specs.declared.Answer.the-variants.{Done, Refused}
-use Rattle.handset.specs.Blocks.{valuesAt, chainAfter}
+use Rattle.handset.specs.Blocks.{valuesAt}
+use Rattle.handset.specs.Steps.{chainAfter}
 
 pub eleven : (s : List ℕ) (i : ℕ)
     → valuesAt 11 s i

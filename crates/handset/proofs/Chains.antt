@@ -19,11 +19,12 @@ use Rattle.sgal3.specs.Elements as Elements
 use Rattle.sgal3_composition.specs.Calls as Calls
 use Rattle.sgal3_composition.specs.declared.Answer.the-variants.{Done, Refused}
 use Rattle.handset.specs.Blocks as Blocks
+use Rattle.handset.specs.Steps as Steps
 use Rattle.handset.proofs.ByteBlocks.{next, end}
 use Rattle.handset.proofs.Outputs.{block-of}
 
-pub one-block : (f s : List ℕ) → length f ≡ 88 → length s ≡ 88 → Blocks.chainAfter f (length s / 88) s ≡ Calls.composeAnswers (Blocks.checkBlock f) (Blocks.checkBlock s)
-unfolding Blocks.chainAfter
+pub one-block : (f s : List ℕ) → length f ≡ 88 → length s ≡ 88 → Steps.chainAfter f (length s / 88) s ≡ Calls.composeAnswers (Blocks.checkBlock f) (Blocks.checkBlock s)
+unfolding Steps.chainAfter
 one-block f s d e =
     let k : length s / 88 ≡ 1 = omega arith in
     rw (k, block-of f d, block-of s e)
@@ -48,8 +49,8 @@ identity-block : Calls.checkElement (Blocks.valuesAt 11 identityBlock 0) toleran
 unfolding Calls.checkElement Checks.checkParamBlock Checks.checkValues Checks.next Checks.checkUnitQuaternion Checks.checkNorm Checks.normOf Checks.allFinite Checks.tolerance Blocks.valuesAt valueAt wordAt ofBits squareRoot nearestRoot count isqrt units size add sub mul lt abs Elements.identity Elements.elementOf Galilean.identity Vector.zero Quaternion.identity
 identity-block = refl
 
-pub after-identity : (n : ℕ) (s : List ℕ) → Blocks.chainAfter identityBlock n s ≡ Blocks.chainBlocks n s
-unfolding Blocks.chainAfter Blocks.chainBlocks Calls.chainBlocks
+pub after-identity : (n : ℕ) (s : List ℕ) → Steps.chainAfter identityBlock n s ≡ Blocks.chainBlocks n s
+unfolding Steps.chainAfter Blocks.chainBlocks Calls.chainBlocks
 after-identity n s = rw identity-block
 
 -- ---- the chain's lengths

@@ -20,13 +20,6 @@ unfoldable pub valuesAt : ℕ → List ℕ → ℕ → List Float
 valuesAt zero s at = []
 valuesAt (suc n) s at = valueAt s at ∷ valuesAt n s (at + 8)
 
--- the vector of three values, and the quaternion of four, from the place at on
-unfoldable pub vectorAt : List ℕ → ℕ → Vec3
-vectorAt s at = record { x = valueAt s at; y = valueAt s (at + 8); z = valueAt s (at + 16) }
-
-unfoldable pub quaternionAt : List ℕ → ℕ → Quaternion
-quaternionAt s at = record { w = valueAt s at; x = valueAt s (at + 8); y = valueAt s (at + 16); z = valueAt s (at + 24) }
-
 -- the element of a block of 88 bytes, or why the block is refused; lengths count bytes
 unfoldable pub checkBlock : List ℕ → Answer
 checkBlock s = cond (eqb (length s) 88) (Calls.checkElement (valuesAt 11 s 0) tolerance) (Refused (Length 88 (length s)))
@@ -34,10 +27,6 @@ checkBlock s = cond (eqb (length s) 88) (Calls.checkElement (valuesAt 11 s 0) to
 -- the chain of n blocks is the chain of their values
 unfoldable pub chainBlocks : ℕ → List ℕ → Answer
 chainBlocks n s = Calls.chainBlocks n (valuesAt (n * 11) s 0)
-
--- the same, composed with the block `first` in place of the identity
-unfoldable pub chainAfter : List ℕ → ℕ → List ℕ → Answer
-chainAfter first n s = Calls.chainFrom (Calls.checkElement (valuesAt 11 first 0) tolerance) n (valuesAt (n * 11) s 0)
 
 -- at most `most` bytes, and whole blocks; the length expected is the largest permitted one not above the actual
 unfoldable pub chain : ℕ → List ℕ → Answer

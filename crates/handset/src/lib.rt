@@ -17,6 +17,7 @@ ghost use Rattle.sgal3_composition.specs.Calls.{chainFrom};
 ghost use Rattle.sgal3_composition.specs.declared.Answer.the-variants.{Done, Refused};
 ghost use Rattle.handset.specs.Blocks as Blocks;
 ghost use Rattle.handset.specs.Entries as Entries;
+ghost use Rattle.handset.specs.Steps as Steps;
 
 // Whether the eleven values of the 88 bytes from at on are finite.
 fn all_finite(s: &[u8], at: usize) -> bool
@@ -40,7 +41,7 @@ fn all_finite(s: &[u8], at: usize) -> bool
 fn vector(s: &[u8], at: usize) -> Vec3
     requires { ⌜ at + 24 ≤ length (now s) ⌝ }
     requires { ⌜ allFinite (Blocks.valuesAt 3 (now s) at) ≡ true ⌝ }
-    ensures { λ r. ⌜ r ≡ Blocks.vectorAt (now (s .entry)) at ⌝ }
+    ensures { λ r. ⌜ r ≡ Steps.vectorAt (now (s .entry)) at ⌝ }
 {
     Vec3 {
         x: words::finite_value(s, at),
@@ -53,7 +54,7 @@ fn vector(s: &[u8], at: usize) -> Vec3
 fn quaternion(s: &[u8], at: usize) -> Quaternion
     requires { ⌜ at + 32 ≤ length (now s) ⌝ }
     requires { ⌜ allFinite (Blocks.valuesAt 4 (now s) at) ≡ true ⌝ }
-    ensures { λ r. ⌜ r ≡ Blocks.quaternionAt (now (s .entry)) at ⌝ }
+    ensures { λ r. ⌜ r ≡ Steps.quaternionAt (now (s .entry)) at ⌝ }
 {
     Quaternion {
         w: words::finite_value(s, at),
@@ -144,7 +145,7 @@ fn compose_blocks(start: Element, s: &[u8]) -> Answer
 // The byte blocks of s, composed one after the other with the block `first`.
 fn chain_blocks(first: &[u8], s: &[u8]) -> Answer
     requires { ⌜ length (now first) ≡ 88 ⌝ }
-    ensures { λ r. ⌜ r ≡ Blocks.chainAfter (now (first .entry)) (length (now (s .entry)) / 88) (now (s .entry)) ⌝ }
+    ensures { λ r. ⌜ r ≡ Steps.chainAfter (now (first .entry)) (length (now (s .entry)) / 88) (now (s .entry)) ⌝ }
 {
     match check_values(first, 0) {
         Check::Passed => compose_blocks(element(first, 0), s),
@@ -220,7 +221,7 @@ fn finish(answer: Answer, out: &mut [u8]) -> u32
 fn store_chain(first: &[u8], blocks: &[u8], out: &mut [u8]) -> u32
     requires { ⌜ length (now first) ≡ 88 ⌝ }
     requires { ⌜ length (now out) ≡ 88 ⌝ }
-    ensures { λ r. ⌜ (r ≡ Entries.number (Blocks.chainAfter (now (first .entry)) (length (now (blocks .entry)) / 88) (now (blocks .entry)))) × (now (out .exit) ≡ Entries.written (Blocks.chainAfter (now (first .entry)) (length (now (blocks .entry)) / 88) (now (blocks .entry))) (now (out .entry))) ⌝ }
+    ensures { λ r. ⌜ (r ≡ Entries.number (Steps.chainAfter (now (first .entry)) (length (now (blocks .entry)) / 88) (now (blocks .entry)))) × (now (out .exit) ≡ Entries.written (Steps.chainAfter (now (first .entry)) (length (now (blocks .entry)) / 88) (now (blocks .entry))) (now (out .entry))) ⌝ }
 {
     // slices of their own, so that the compiler passes the parameters in registers
     let one = &first[0..];

@@ -28,7 +28,7 @@ pub fn element_answer(a: Element) -> Answer
     }
 }
 
-fn element_of(s: &[f64]) -> Element
+pub fn element_of(s: &[f64]) -> Element
     requires { ⌜ length (now s) ≡ 11 ⌝ }
     ensures { λ r. ⌜ r ≡ Elements.elementOf (now (s .entry)) ⌝ }
 {

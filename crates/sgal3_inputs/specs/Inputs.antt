@@ -1,13 +1,11 @@
 -- What the blocks of a call come to: the values, or the refusal 1 to 3 that is tried first. Definitions only.
 use mathlib.Core.List.{List}
 use lib.Ieee.{Float}
-use Rattle.checks.specs.Refusals.{earlier}
-use Rattle.checks.specs.Checks.{tolerance, checkValues}
+use Rattle.checks.specs.Checks.{tolerance, checkValues, both, validateSgal3Params}
 use Rattle.checks.specs.declared.Refusal.{Refusal}
 use Rattle.linear.specs.declared.Vec3.{Vec3}
-use Rattle.so3_answers.specs.declared.VectorAnswer.{VectorAnswer}
-use Rattle.so3_answers.specs.declared.VectorAnswer.the-variants.{Done as VectorAnswer·Done, Refused as VectorAnswer·Refused}
 use Rattle.so3_inputs.specs.Inputs as So3
+use Rattle.sgal3.specs.Elements as Elements
 use Rattle.sgal3.specs.Tangents as Tangents
 use Rattle.sgal3.specs.declared.Element.{Element}
 use Rattle.sgal3.specs.declared.Tangent.{Tangent}
@@ -32,41 +30,21 @@ unfoldable pub checkTangent : List Float → TangentAnswer
 checkTangent s = So3.onCheck TangentAnswer·Refused (TangentAnswer·Done (Tangents.tangentOf s)) (checkValues s 10)
 
 -- ---- two blocks: where both are refused, the refusal that is tried first
-unfoldable pub bothElements : Answer → Answer → Two
-bothElements (Answer·Done a) (Answer·Done b) = Elements·Done a b
-bothElements (Answer·Done a) (Answer·Refused s) = Elements·Refused s
-bothElements (Answer·Refused r) (Answer·Done b) = Elements·Refused r
-bothElements (Answer·Refused r) (Answer·Refused s) = Elements·Refused (earlier r s)
-
-unfoldable pub elementAndVector : Answer → VectorAnswer → ElementAndVector
-elementAndVector (Answer·Done a) (VectorAnswer·Done p) = ElementAndVector·Done a p
-elementAndVector (Answer·Done a) (VectorAnswer·Refused s) = ElementAndVector·Refused s
-elementAndVector (Answer·Refused r) (VectorAnswer·Done p) = ElementAndVector·Refused r
-elementAndVector (Answer·Refused r) (VectorAnswer·Refused s) = ElementAndVector·Refused (earlier r s)
-
-unfoldable pub elementAndTangent : Answer → TangentAnswer → ElementAndTangent
-elementAndTangent (Answer·Done a) (TangentAnswer·Done t) = ElementAndTangent·Done a t
-elementAndTangent (Answer·Done a) (TangentAnswer·Refused s) = ElementAndTangent·Refused s
-elementAndTangent (Answer·Refused r) (TangentAnswer·Done t) = ElementAndTangent·Refused r
-elementAndTangent (Answer·Refused r) (TangentAnswer·Refused s) = ElementAndTangent·Refused (earlier r s)
-
-unfoldable pub bothTangents : TangentAnswer → TangentAnswer → TwoTangents
-bothTangents (TangentAnswer·Done t) (TangentAnswer·Done u) = Tangents·Done t u
-bothTangents (TangentAnswer·Done t) (TangentAnswer·Refused s) = Tangents·Refused s
-bothTangents (TangentAnswer·Refused r) (TangentAnswer·Done u) = Tangents·Refused r
-bothTangents (TangentAnswer·Refused r) (TangentAnswer·Refused s) = Tangents·Refused (earlier r s)
-
 unfoldable pub checkElements : List Float → List Float → Two
-checkElements left right = bothElements (checkElement left) (checkElement right)
+checkElements left right =
+    So3.onCheck Elements·Refused (Elements·Done (Elements.elementOf left) (Elements.elementOf right)) (both (validateSgal3Params left) (validateSgal3Params right))
 
 unfoldable pub checkElementAndVector : List Float → List Float → ElementAndVector
-checkElementAndVector block vector = elementAndVector (checkElement block) (So3.checkVector vector)
+checkElementAndVector block vector =
+    So3.onCheck ElementAndVector·Refused (ElementAndVector·Done (Elements.elementOf block) (So3.vectorOf vector)) (both (validateSgal3Params block) (checkValues vector 3))
 
 unfoldable pub checkElementAndTangent : List Float → List Float → ElementAndTangent
-checkElementAndTangent block tangent = elementAndTangent (checkElement block) (checkTangent tangent)
+checkElementAndTangent block tangent =
+    So3.onCheck ElementAndTangent·Refused (ElementAndTangent·Done (Elements.elementOf block) (Tangents.tangentOf tangent)) (both (validateSgal3Params block) (checkValues tangent 10))
 
 unfoldable pub checkTangents : List Float → List Float → TwoTangents
-checkTangents left right = bothTangents (checkTangent left) (checkTangent right)
+checkTangents left right =
+    So3.onCheck Tangents·Refused (Tangents·Done (Tangents.tangentOf left) (Tangents.tangentOf right)) (both (checkValues left 10) (checkValues right 10))
 
 -- ---- what follows a check
 abbrev pub onElement : {X : Type 0} → (Refusal → X) → (Element → X) → Answer → X

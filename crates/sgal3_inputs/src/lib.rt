@@ -7,7 +7,6 @@ use sgal3::Element;
 use sgal3::Tangent;
 use sgal3_answers::TangentAnswer;
 use sgal3_composition::Answer;
-use so3_answers::VectorAnswer;
 ghost use mathlib.Core.Path.{_≡_};
 ghost use lib.ListN.{length};
 ghost use Rattle.sgal3.specs.Tangents as Galilean;
@@ -72,87 +71,59 @@ pub fn check_tangent(tangent: &[f64]) -> TangentAnswer
     }
 }
 
-// Of two blocks that are both refused, the refusal that is tried first.
-fn both_elements(left: Answer, right: Answer) -> Elements
-    ensures { λ r. ⌜ r ≡ Inputs.bothElements left right ⌝ }
-{
-    match left {
-        Answer::Done(a) => match right {
-            Answer::Done(b) => Elements::Done(a, b),
-            Answer::Refused(s) => Elements::Refused(s),
-        },
-        Answer::Refused(r) => match right {
-            Answer::Done(_) => Elements::Refused(r),
-            Answer::Refused(s) => Elements::Refused(r.earlier(s)),
-        },
-    }
-}
-
-fn element_and_vector(left: Answer, right: VectorAnswer) -> ElementAndVector
-    ensures { λ r. ⌜ r ≡ Inputs.elementAndVector left right ⌝ }
-{
-    match left {
-        Answer::Done(a) => match right {
-            VectorAnswer::Done(p) => ElementAndVector::Done(a, p),
-            VectorAnswer::Refused(s) => ElementAndVector::Refused(s),
-        },
-        Answer::Refused(r) => match right {
-            VectorAnswer::Done(_) => ElementAndVector::Refused(r),
-            VectorAnswer::Refused(s) => ElementAndVector::Refused(r.earlier(s)),
-        },
-    }
-}
-
-fn element_and_tangent(left: Answer, right: TangentAnswer) -> ElementAndTangent
-    ensures { λ r. ⌜ r ≡ Inputs.elementAndTangent left right ⌝ }
-{
-    match left {
-        Answer::Done(a) => match right {
-            TangentAnswer::Done(t) => ElementAndTangent::Done(a, t),
-            TangentAnswer::Refused(s) => ElementAndTangent::Refused(s),
-        },
-        Answer::Refused(r) => match right {
-            TangentAnswer::Done(_) => ElementAndTangent::Refused(r),
-            TangentAnswer::Refused(s) => ElementAndTangent::Refused(r.earlier(s)),
-        },
-    }
-}
-
-fn both_tangents(left: TangentAnswer, right: TangentAnswer) -> Tangents
-    ensures { λ r. ⌜ r ≡ Inputs.bothTangents left right ⌝ }
-{
-    match left {
-        TangentAnswer::Done(t) => match right {
-            TangentAnswer::Done(u) => Tangents::Done(t, u),
-            TangentAnswer::Refused(s) => Tangents::Refused(s),
-        },
-        TangentAnswer::Refused(r) => match right {
-            TangentAnswer::Done(_) => Tangents::Refused(r),
-            TangentAnswer::Refused(s) => Tangents::Refused(r.earlier(s)),
-        },
-    }
-}
-
 pub fn check_elements(left: &[f64], right: &[f64]) -> Elements
     ensures { λ r. ⌜ r ≡ Inputs.checkElements (now (left .entry)) (now (right .entry)) ⌝ }
 {
-    both_elements(check_element(left), check_element(right))
+    match checks::both(
+        checks::validate_sgal3_params(left),
+        checks::validate_sgal3_params(right),
+    ) {
+        Check::Passed => Elements::Done(
+            sgal3_composition::element_of(left),
+            sgal3_composition::element_of(right),
+        ),
+        Check::Refused(r) => Elements::Refused(r),
+    }
 }
 
 pub fn check_element_and_vector(block: &[f64], vector: &[f64]) -> ElementAndVector
     ensures { λ r. ⌜ r ≡ Inputs.checkElementAndVector (now (block .entry)) (now (vector .entry)) ⌝ }
 {
-    element_and_vector(check_element(block), so3_inputs::check_vector(vector))
+    match checks::both(
+        checks::validate_sgal3_params(block),
+        checks::check_values(vector, 3),
+    ) {
+        Check::Passed => ElementAndVector::Done(
+            sgal3_composition::element_of(block),
+            so3_inputs::vector_of(vector),
+        ),
+        Check::Refused(r) => ElementAndVector::Refused(r),
+    }
 }
 
 pub fn check_element_and_tangent(block: &[f64], tangent: &[f64]) -> ElementAndTangent
     ensures { λ r. ⌜ r ≡ Inputs.checkElementAndTangent (now (block .entry)) (now (tangent .entry)) ⌝ }
 {
-    element_and_tangent(check_element(block), check_tangent(tangent))
+    match checks::both(
+        checks::validate_sgal3_params(block),
+        checks::check_values(tangent, 10),
+    ) {
+        Check::Passed => ElementAndTangent::Done(
+            sgal3_composition::element_of(block),
+            tangent_of(tangent),
+        ),
+        Check::Refused(r) => ElementAndTangent::Refused(r),
+    }
 }
 
 pub fn check_tangents(left: &[f64], right: &[f64]) -> Tangents
     ensures { λ r. ⌜ r ≡ Inputs.checkTangents (now (left .entry)) (now (right .entry)) ⌝ }
 {
-    both_tangents(check_tangent(left), check_tangent(right))
+    match checks::both(
+        checks::check_values(left, 10),
+        checks::check_values(right, 10),
+    ) {
+        Check::Passed => Tangents::Done(tangent_of(left), tangent_of(right)),
+        Check::Refused(r) => Tangents::Refused(r),
+    }
 }

@@ -13,8 +13,6 @@ use Rattle.so3_answers.specs.declared.Answer.{Answer}
 use Rattle.so3_answers.specs.declared.Answer.the-variants.{Done as Answer·Done, Refused as Answer·Refused}
 use Rattle.so3_answers.specs.declared.TangentAnswer.{TangentAnswer}
 use Rattle.so3_answers.specs.declared.TangentAnswer.the-variants.{Done as TangentAnswer·Done, Refused as TangentAnswer·Refused}
-use Rattle.so3_answers.specs.declared.VectorAnswer.{VectorAnswer}
-use Rattle.so3_answers.specs.declared.VectorAnswer.the-variants.{Done as VectorAnswer·Done, Refused as VectorAnswer·Refused}
 use Rattle.so3_inputs.specs.declared.Elements.{Elements as Two}
 use Rattle.so3_inputs.specs.declared.Elements.the-variants.{Done as Elements·Done, Refused as Elements·Refused}
 use Rattle.so3_inputs.specs.declared.ElementAndVector.{ElementAndVector}
@@ -46,9 +44,6 @@ checkElements left right = onCheck Elements·Refused (Elements·Done (elementOf 
 unfoldable pub checkElementAndVector : List Float → List Float → ElementAndVector
 checkElementAndVector block vector =
     onCheck ElementAndVector·Refused (ElementAndVector·Done (elementOf block) (vectorOf vector)) (both (validateSo3Params block) (checkValues vector 3))
-
-unfoldable pub checkVector : List Float → VectorAnswer
-checkVector s = onCheck VectorAnswer·Refused (VectorAnswer·Done (vectorOf s)) (checkValues s 3)
 
 unfoldable pub checkTangent : List Float → TangentAnswer
 checkTangent s = onCheck TangentAnswer·Refused (TangentAnswer·Done (tangentOf s)) (checkValues s 3)

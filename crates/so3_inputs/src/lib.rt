@@ -8,7 +8,6 @@ use so3::Element;
 use so3::Tangent;
 use so3_answers::Answer;
 use so3_answers::TangentAnswer;
-use so3_answers::VectorAnswer;
 ghost use mathlib.Core.Path.{_≡_};
 ghost use lib.ListN.{length};
 ghost use Rattle.so3_inputs.specs.Inputs as Inputs;
@@ -27,7 +26,7 @@ pub fn element_of(s: &[f64]) -> Element
     }
 }
 
-fn vector_of(s: &[f64]) -> Vec3
+pub fn vector_of(s: &[f64]) -> Vec3
     requires { ⌜ length (now s) ≡ 3 ⌝ }
     ensures { λ r. ⌜ r ≡ Inputs.vectorOf (now (s .entry)) ⌝ }
 {
@@ -83,15 +82,6 @@ pub fn check_element_and_vector(block: &[f64], vector: &[f64]) -> ElementAndVect
     ) {
         Check::Passed => ElementAndVector::Done(element_of(block), vector_of(vector)),
         Check::Refused(r) => ElementAndVector::Refused(r),
-    }
-}
-
-pub fn check_vector(vector: &[f64]) -> VectorAnswer
-    ensures { λ r. ⌜ r ≡ Inputs.checkVector (now (vector .entry)) ⌝ }
-{
-    match checks::check_values(vector, 3) {
-        Check::Passed => VectorAnswer::Done(vector_of(vector)),
-        Check::Refused(r) => VectorAnswer::Refused(r),
     }
 }
 

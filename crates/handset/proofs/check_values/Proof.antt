@@ -4,7 +4,7 @@ use mathlib.Core.Path.{_≡_, sym, _∙_}
 use borrow.Author.Needs.{needs}
 use borrow.Author.Tests.{not-true, not-false}
 use native.Mathlib.Omega.{arith}
-use Rattle.handset.specs.Blocks as Blocks
+use Rattle.handset.specs.Steps as Steps
 use Rattle.handset.proofs.ByteBlocks.{finite-part, not-finite, by-norm}
 use Rattle.handset.proofs.check_values.Statement.{statement}
 use Rattle.handset.proofs.check_values.Tie as tie
@@ -16,7 +16,7 @@ quaternion-requires : tie.Need-quaternion-requires
 quaternion-requires c κs = (omega arith, finite-part 3 4 4 _ _ (sym (c .before .all-finite .ensures) ∙ not-false (c .before .all-finite .result) (c .if1 .left)))
 
 returns-2 : tie.Need-returns-2
-unfolding Blocks.quaternionAt
+unfolding Steps.quaternionAt
 returns-2 c =
     let start = c .before .before .before .before .before .before in
     let i = start .before .args .at in

@@ -4,7 +4,7 @@ use mathlib.Core.Path.{_≡_}
 use borrow.Author.Needs.{needs}
 use native.Mathlib.Omega.{arith}
 use Rattle.sgal3.specs.Elements.{elementOf}
-use Rattle.handset.specs.Blocks as Blocks
+use Rattle.handset.specs.Steps as Steps
 use Rattle.handset.proofs.ByteBlocks.{eleven, finite-front, finite-part, finite-at}
 use Rattle.handset.proofs.element.Statement.{statement}
 use Rattle.handset.proofs.element.Tie as tie
@@ -22,7 +22,7 @@ finite-value-requires : tie.Need-finite-value-requires
 finite-value-requires c κs = (omega arith, finite-at 10 0 _ _ (c .before .before .before .before .pre .1))
 
 returns : tie.Need-returns
-unfolding elementOf Blocks.vectorAt Blocks.quaternionAt
+unfolding elementOf Steps.vectorAt Steps.quaternionAt
 returns c =
     let i = c .before .before .before .before .before .args .at in
     let a : i + 24 + 8 ≡ i + 32 = omega arith in

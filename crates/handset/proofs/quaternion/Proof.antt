@@ -1,7 +1,7 @@
 -- `handset::quaternion` meets its contract. Assumes nothing.
 use borrow.Author.Needs.{needs}
 use native.Mathlib.Omega.{arith}
-use Rattle.handset.specs.Blocks as Blocks
+use Rattle.handset.specs.Steps as Steps
 use Rattle.handset.proofs.ByteBlocks.{finite-first, finite-at}
 use Rattle.handset.proofs.quaternion.Statement.{statement}
 use Rattle.handset.proofs.quaternion.Tie as tie
@@ -19,7 +19,7 @@ finite-value-requires-4 : tie.Need-finite-value-requires-4
 finite-value-requires-4 c κs = (omega arith, finite-at 3 0 _ _ (c .before .before .before .before .pre .1))
 
 returns : tie.Need-returns
-unfolding Blocks.quaternionAt
+unfolding Steps.quaternionAt
 returns c =
     rw (
       c .finite-value4 .ensures,

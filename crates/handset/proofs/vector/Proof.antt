@@ -1,7 +1,7 @@
 -- `handset::vector` meets its contract. Assumes nothing.
 use borrow.Author.Needs.{needs}
 use native.Mathlib.Omega.{arith}
-use Rattle.handset.specs.Blocks as Blocks
+use Rattle.handset.specs.Steps as Steps
 use Rattle.handset.proofs.ByteBlocks.{finite-first, finite-at}
 use Rattle.handset.proofs.vector.Statement.{statement}
 use Rattle.handset.proofs.vector.Tie as tie
@@ -16,7 +16,7 @@ finite-value-requires-3 : tie.Need-finite-value-requires-3
 finite-value-requires-3 c κs = (omega arith, finite-at 2 0 _ _ (c .before .before .before .pre .1))
 
 returns : tie.Need-returns
-unfolding Blocks.vectorAt
+unfolding Steps.vectorAt
 returns c = rw (c .finite-value3 .ensures, c .before .finite-value2 .ensures, c .before .before .finite-value .ensures)
 
 pub vector-spec : {M : Type 1} → statement M

@@ -1,0 +1,21 @@
+-- What the private functions of the entries ensure. Definitions only.
+use Prim.Native.Nat.{ℕ, _+_, _*_}
+use mathlib.Core.List.{List}
+use Rattle.checks.specs.Checks.{tolerance}
+use Rattle.linear.specs.declared.Vec3.{Vec3}
+use Rattle.linear.specs.declared.Quaternion.{Quaternion}
+use Rattle.words.specs.Word.{valueAt}
+use Rattle.sgal3_composition.specs.Calls as Calls
+use Rattle.sgal3_composition.specs.declared.Answer.{Answer}
+use Rattle.handset.specs.Blocks.{valuesAt}
+
+-- the vector of three values, and the quaternion of four, from the place at on
+unfoldable pub vectorAt : List ℕ → ℕ → Vec3
+vectorAt s at = record { x = valueAt s at; y = valueAt s (at + 8); z = valueAt s (at + 16) }
+
+unfoldable pub quaternionAt : List ℕ → ℕ → Quaternion
+quaternionAt s at = record { w = valueAt s at; x = valueAt s (at + 8); y = valueAt s (at + 16); z = valueAt s (at + 24) }
+
+-- the chain of n blocks of s, composed with the block `first` in place of the identity
+unfoldable pub chainAfter : List ℕ → ℕ → List ℕ → Answer
+chainAfter first n s = Calls.chainFrom (Calls.checkElement (valuesAt 11 first 0) tolerance) n (valuesAt (n * 11) s 0)
