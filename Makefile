@@ -1,8 +1,11 @@
 # make run FILE=..  the program `chain` on a file of element blocks: examples/two-steps.bin unless another is named
 # make test         everything; the last line is rt's verdict
 # make lib          the static library and its header, in target/lib
-# make compare      every call, the C entries and the square root beside the Rust, on fresh random requests: SEED=.. and
-#                   COUNT=.. or SECONDS=..; APEX_SRC=.. names the folder of the Rust source, if it is not ../shared
+# make try          the programs with no proof, on the interpreter and compiled three ways; TRIES=.. times on requests drawn at
+#                   random, beside the Rust
+# make compare      every call, the C entries and the square root beside the Rust, on fresh random requests: SEED=..; for the
+#                   calls COUNT=.. or SECONDS=.., the entries and the root get a million; APEX_SRC=.. names the folder of the
+#                   Rust source, if it is not ../shared
 # make bench        times: the square root, and the calls beside the Rust source and plain Rust
 # make vectors      the stored vectors of the square root anew
 # make sample       the stored requests of the program `conformance` and the reference's answers anew
@@ -11,9 +14,10 @@ FILE = examples/two-steps.bin
 SEED = 1
 COUNT = 10000000
 SECONDS =
+TRIES = 6
 SHELL = /bin/bash
 CARGO = cargo --quiet --offline
-NUMBER = --target-dir target/cargo --manifest-path rust/number/Cargo.toml
+FLOAT = --target-dir target/cargo --manifest-path rust/float/Cargo.toml
 VECTORS = crates/sqrt_vectors/data/vectors
 CASES = $(CARGO) run --release --target-dir target/cargo --manifest-path rust/cases/Cargo.toml --
 SAMPLE = crates/conformance/stdin crates/conformance/stdout
@@ -40,18 +44,18 @@ WITH_CARGO = if ! command -v cargo > /dev/null; then $(call WITHOUT,cargo); \
 # What is needed to run the Rust source itself.
 WITH_SOURCE = if ! [ -d "$$APEX_SRC" ]; then $(call WITHOUT,Rust source (APEX_SRC names its folder)); else $(call WITH_CARGO,$(1)); fi
 
-.PHONY: run test test-built toolchain-check format-check lib test-rust test-c vectors-check cases-check sample-check \
+.PHONY: run test test-built try try-programs try-requests toolchain-check format-check lib test-rust test-c vectors-check cases-check sample-check \
 	test-reference compare compare-sqrt compare-calls compare-entries valgrind-entries conformance bench bench-sqrt \
-	bench-handset requests-lib vectors cases sample number-lib
+	bench-handset requests-lib vectors cases sample float-lib
 .NOTPARALLEL:
 
 run:
 	@$(call QUIETLY,rt check chain)
 	@target/bin/chain < $(FILE)
 
-# What wants a program or a library that is built comes after rt ci: so each is proved once, in this very run. Its verdict
+# What wants a program or a library that is proved comes after rt ci: so each is proved once, in this very run. Its verdict
 # is printed again as the last line, if the rest passes too.
-test: toolchain-check format-check vectors-check cases-check sample-check test-reference
+test: toolchain-check format-check vectors-check cases-check sample-check test-reference try
 	@exec 3>&1; verdict=$$(set -o pipefail; rt ci | while IFS= read -r line; do printf '%s\n' "$$line" >&3; \
 	    printf '%s\n' "$$line"; done | tail -n 1) && \
 	$(MAKE) --no-print-directory test-built COUNT=5000000 && printf '%s\n' "$$verdict"
@@ -90,7 +94,7 @@ test-c: lib
 	else $(call WITHOUT,g++); fi
 
 vectors-check:
-	@$(call WITH_CARGO,mkdir -p target && $(CARGO) run --release $(NUMBER) --bin sqrt_vectors > target/vectors && \
+	@$(call WITH_CARGO,mkdir -p target && $(CARGO) run --release $(FLOAT) --bin sqrt_vectors > target/vectors && \
 	    cmp target/vectors $(VECTORS))
 
 # Neither the sources nor the proofs of the two programs are the generator's.
@@ -107,16 +111,30 @@ sample-check:
 test-reference:
 	@$(call WITH_SOURCE,$(CARGO) test $(REFERENCE) --workspace --exclude entries)
 
-number-lib:
-	@$(call QUIETLY,rt staticlib number_export)
+# A mistake in the code shows here before any proof is checked. What conformance is asked stands in its folder, so it runs in a
+# copy of the crates; the interpreter ends a run after ten million steps, and 800 requests stay well below.
+try: try-programs try-requests
+
+try-programs:
+	@for program in chain chain_cases bench_lines sqrt_vectors; do rt try $$program || exit 1; done
+
+TRIED = target/try/crates/conformance
+try-requests:
+	@$(call WITH_SOURCE,rm -rf target/try && mkdir -p target/try && cp -r crates crates.txt target/try/ && \
+	    for seed in $$(seq $(SEED) $$(($(SEED) + $(TRIES) - 1))); do \
+	        $(CARGO) run $(REFERENCE) --bin draw -- $(TRIED)/stdin $(TRIED)/stdout $$seed 800 && \
+	        echo "seed $$seed: 800 requests" && (cd target/try && rt try conformance) || exit 1; done; rm -rf target/try)
+
+float-lib:
+	@$(call QUIETLY,rt staticlib float_export)
 
 conformance:
 	@$(call QUIETLY,rt check conformance)
 
 compare: compare-sqrt compare-entries compare-calls
 
-compare-sqrt: number-lib
-	@$(call WITH_CARGO,$(CARGO) run --release $(NUMBER) --bin sqrt_compare -- --seed $(SEED) --count 1000000)
+compare-sqrt: float-lib
+	@$(call WITH_CARGO,$(CARGO) run --release $(FLOAT) --bin sqrt_compare -- --seed $(SEED) --count 1000000)
 
 compare-calls: conformance
 	@$(call WITH_SOURCE,$(CARGO) run $(REFERENCE) --bin compare -- target/bin/conformance --seed $(SEED) \
@@ -133,8 +151,8 @@ valgrind-entries: lib
 
 bench: bench-sqrt bench-handset
 
-bench-sqrt: number-lib
-	@$(CARGO) run --release $(NUMBER) --bin sqrt_bench
+bench-sqrt: float-lib
+	@$(CARGO) run --release $(FLOAT) --bin sqrt_bench
 
 bench-handset: lib requests-lib
 	@$(CARGO) run --release --target-dir target/cargo --manifest-path rust/bench/Cargo.toml
@@ -144,7 +162,7 @@ requests-lib:
 	@$(call QUIETLY,rt staticlib requests_export)
 
 vectors:
-	@$(CARGO) run --release $(NUMBER) --bin sqrt_vectors > $(VECTORS)
+	@$(CARGO) run --release $(FLOAT) --bin sqrt_vectors > $(VECTORS)
 
 sample:
 	@$(CARGO) run $(REFERENCE) --bin sample -- $(SAMPLE)

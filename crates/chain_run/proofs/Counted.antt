@@ -1,8 +1,9 @@
 -- The count that an answer holds. Assumes nothing.
 use Prim.Native.Nat.{ℕ, _≤_}
 use mathlib.Core.List.{List}
-use mathlib.Core.Path.{_≡_, subst}
+use mathlib.Core.Path.{_≡_, subst, sym}
 use lib.ListN.{length, take}
+use lib.Seq.{length-take-le}
 use Rattle.chain_run.specs.Count.{AtMost}
 use Rattle.chain_run.specs.Reported.{Reported}
 use Rattle.chain_run.specs.declared.Input.{Input}
@@ -19,7 +20,7 @@ counted r n most e h = at-most n most (subst (λ (i : Input). AtMost i most) e h
 
 put-in-page : (n k : ℕ) (space before page : List ℕ) → Reported (Report n k) space before page → (k ≤ length page) × (k ≡ length (take k page))
 unfolding Reported
-put-in-page n k space before page h = (h .1 .0, h .1 .1)
+put-in-page n k space before page h = (h .1 .0, sym (length-take-le _ _ (h .1 .0)))
 
 -- the two facts by which a caller lends the report as a part of the page
 pub in-page : (r : Reading) (n k : ℕ) (space before page : List ℕ) → r ≡ Report n k → Reported r space before page

@@ -1,3 +1,4 @@
 pub mod Finite
 pub mod Passed
 pub mod Order
+pub mod NearOne

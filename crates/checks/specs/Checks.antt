@@ -6,8 +6,8 @@ use lib.Dec.{eqb}
 use lib.ListN.{length, getD, take, drop}
 use lib.Ieee.{Float, nan, binary64, ofBits, add, sub, mul, lt}
 use lib.Ieee.Scale.{finite}
-use Rattle.number.specs.Exact.{abs}
-use Rattle.number.specs.Root.{squareRoot}
+use Rattle.float.specs.Exact.{abs}
+use Rattle.float.specs.Root.{squareRoot}
 use Rattle.checks.specs.Refusals.{earlier}
 use Rattle.checks.specs.declared.Refusal.the-variants.{Length, NotFinite, NotUnit}
 use Rattle.checks.specs.declared.Check.{Check}

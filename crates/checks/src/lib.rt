@@ -1,9 +1,12 @@
 // Refusals with their numbers and figures, and the checks of a parameter block (util.rs, error.rs).
 ghost use mathlib.Core.Path.{_≡_};
+ghost use mathlib.Core.Bool.{true};
 ghost use Prim.Native.Nat.{_+_, _≤_};
 ghost use lib.ListN.{length};
+ghost use Rattle.float.specs.Root.{squareRoot};
 ghost use Rattle.checks.specs.Refusals as Refusals;
 ghost use Rattle.checks.specs.Checks as Checks;
+ghost use Rattle.checks.specs.declared.Check.the-variants.{Passed};
 
 // Why a call is refused. A wrong length carries the expected and the actual one, a quaternion that is not unit its norm.
 pub enum Refusal {
@@ -72,7 +75,7 @@ pub fn all_finite(s: &[f64]) -> bool
 {
     let mut i = 0;
     while i < s.len() {
-        if !number::is_finite(s[i]) {
+        if !float::is_finite(s[i]) {
             return false;
         }
         i += 1;
@@ -84,13 +87,22 @@ pub fn all_finite(s: &[f64]) -> bool
 fn check_norm(norm: f64, tolerance: f64) -> Check
     ensures { λ r. ⌜ r ≡ Checks.checkNorm norm tolerance ⌝ }
 {
-    if !number::is_finite(norm) {
+    if !float::is_finite(norm) {
         return Check::Refused(Refusal::NotFinite); // it overflowed
     }
-    if number::magnitude(norm - 1.0) > tolerance {
+    if float::magnitude(norm - 1.0) > tolerance {
         return Check::Refused(Refusal::NotUnit(norm));
     }
     Check::Passed
+}
+
+// Whether the root of a squared norm is sure to pass the check, which needs no root: within 2^-20 of 1 the root is nearer to 1 still.
+// A no says nothing.
+fn passes_without_root(squared: f64, tolerance: f64) -> bool
+    ensures { λ r. ⌜ (r ≡ true → Checks.checkNorm (squareRoot squared) tolerance ≡ Passed) ⌝ }
+{
+    ((0.9999990463256836 <= squared) & (squared <= 1.0000009536743164))
+        & ((9.5367431640625e-7 <= tolerance) & (tolerance <= 1.0))
 }
 
 // The four values w, x, y, z.
@@ -98,10 +110,11 @@ pub fn check_unit_quaternion(q: &[f64], tolerance: f64) -> Check
     requires { ⌜ length (now q) ≡ 4 ⌝ }
     ensures { λ r. ⌜ r ≡ Checks.checkUnitQuaternion (now (q .entry)) tolerance ⌝ }
 {
-    check_norm(
-        number::sqrt(q[0] * q[0] + q[1] * q[1] + q[2] * q[2] + q[3] * q[3]),
-        tolerance,
-    )
+    let squared = q[0] * q[0] + q[1] * q[1] + q[2] * q[2] + q[3] * q[3];
+    if passes_without_root(squared, tolerance) {
+        return Check::Passed;
+    }
+    check_norm(float::sqrt(squared), tolerance)
 }
 
 // Length, then all values.

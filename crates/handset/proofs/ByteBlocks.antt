@@ -1,7 +1,7 @@
 -- The values of byte blocks: of one block place by place, and of a chain block by block. Assumes nothing.
 use Prim.Native.Nat.{ℕ, zero, suc, _+_, _-_, _*_, _/_, _≤_, _<_}
 use mathlib.Core.Path.{_≡_, refl, sym, ap, _∙_}
-use mathlib.Core.Bool.{Bool, true, false, _&&_, false≢true}
+use mathlib.Core.Bool.{true, false}
 use mathlib.Core.List.{List, [], _∷_, _++_}
 use native.Mathlib.Omega.{arith}
 use lib.ListN.{length, take, drop}
@@ -13,8 +13,9 @@ use Rattle.checks.specs.Refusals.{earlier}
 use Rattle.checks.specs.Checks as Checks
 use Rattle.checks.specs.Checks.{tolerance, allFinite, checkValues, checkUnitQuaternion, checkParamBlock}
 use Rattle.checks.specs.declared.Refusal.{Refusal}
-use Rattle.checks.specs.declared.Refusal.the-variants.{NotFinite, Overflow}
+use Rattle.checks.specs.declared.Refusal.the-variants.{NotFinite}
 use Rattle.checks.specs.declared.Check.the-variants.{Passed, Refused as Check·Refused}
+use Rattle.checks.proofs.Finite.{both, finite-append}
 use Rattle.sgal3.specs.Elements as Elements
 use Rattle.sgal3.specs.Elements.{elementOf}
 use Rattle.sgal3.specs.declared.Element.{Element}
@@ -64,19 +65,6 @@ whole l = let e : length l - 0 ≡ length l = omega arith in ap (λ (n : ℕ). t
     all (x ∷ l) = ap (λ (t : List ℕ). x ∷ t) (all l)
 
 -- ---- parts of a run of finite values
-pub both : (a b : Bool) → (a && b) ≡ true → (a ≡ true) × (b ≡ true)
-both true true e = (refl, refl)
-both true false e = absurd (false≢true e)
-both false b e = absurd (false≢true e)
-
-finite-append : (a b : List Float) → allFinite (a ++ b) ≡ true → (allFinite a ≡ true) × (allFinite b ≡ true)
-unfolding allFinite
-finite-append [] b e = (refl, e)
-finite-append (x ∷ a) b e =
-    let h = both (finite x) (allFinite (a ++ b)) e in
-    let t = finite-append a b (h .1) in
-    (rw (h .0, t .0), t .1)
-
 pub finite-front : (n m : ℕ) (s : List ℕ) (i : ℕ) → allFinite (valuesAt (n + m) s i) ≡ true → allFinite (valuesAt n s i) ≡ true
 finite-front n m s i e = finite-append (valuesAt n s i) (valuesAt m s (i + n * 8)) (ap allFinite (sym (values-append n m s i)) ∙ e) .0
 
@@ -139,14 +127,6 @@ pub stops : (a : Element) (q : Refusal) (left : ℕ) (s : List ℕ) (i : ℕ) �
     → chainFrom (Done a) left (valuesAt (left * 11) s i) ≡ chainFrom (Refused q) (left - 1) (valuesAt ((left - 1) * 11) s (i + 88))
 unfolding composeAnswers firstRefusal
 stops a q left s i h e = next (Done a) left s i h ∙ rw (refused (valuesAt 11 s i) tolerance q e)
-
-pub finished : (e : Element) → allFinite (Elements.coeffs e) ≡ true → elementAnswer e ≡ Done e
-unfolding elementAnswer
-finished e h = rw h
-
-pub overflowed : (e : Element) → allFinite (Elements.coeffs e) ≡ false → elementAnswer e ≡ Refused Overflow
-unfolding elementAnswer
-overflowed e h = rw h
 
 -- what is held is a refusal already
 pub passed-by : (r : Refusal) (left : ℕ) (s : List ℕ) (i : ℕ) → 0 < left → checkParamBlock (valuesAt 11 s i) 11 3 tolerance ≡ Passed

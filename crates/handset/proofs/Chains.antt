@@ -1,6 +1,6 @@
 -- The chain of byte blocks after a first block: of one block it is compose's answer, and after the identity's it is the chain's. Assumes nothing.
 use Prim.Native.Nat.{ℕ, _-_, _/_, _%_, _≤_, _<_}
-use mathlib.Core.Path.{_≡_, refl, ap, _∙_}
+use mathlib.Core.Path.{_≡_, refl, _∙_}
 use mathlib.Core.List.{List, [], _∷_}
 use native.Mathlib.Omega.{arith}
 use borrow.Author.Tests.{eq-eqb, ne-eqb, lt-ltb, le-ltb}
@@ -9,8 +9,8 @@ use lib.Ieee.{ofBits, units, size, add, sub, mul, lt}
 use Rattle.law.specs.Vector as Vector
 use Rattle.law.specs.Quaternion as Quaternion
 use Rattle.law.specs.Galilean as Galilean
-use Rattle.number.specs.Exact.{count, abs}
-use Rattle.number.specs.Root.{isqrt, nearestRoot, squareRoot}
+use Rattle.float.specs.Exact.{count, abs}
+use Rattle.float.specs.Root.{isqrt, nearestRoot, squareRoot}
 use Rattle.checks.specs.Checks as Checks
 use Rattle.checks.specs.Checks.{tolerance}
 use Rattle.checks.specs.declared.Refusal.the-variants.{Length}

@@ -1,4 +1,5 @@
 pub mod ByteBlocks
+pub mod FiniteValues
 pub mod Stored
 pub mod Outputs
 pub mod Chains

@@ -12,7 +12,7 @@ ghost use Prim.Native.Nat.{_+_, _*_, _/_, _≤_};
 ghost use lib.ListN.{length};
 ghost use lib.Seq.{sets};
 ghost use Rattle.checks.specs.Checks.{tolerance, allFinite, checkParamBlock};
-ghost use Rattle.sgal3.specs.Elements.{elementOf};
+ghost use Rattle.sgal3.specs.Elements.{coeffs, elementOf};
 ghost use Rattle.sgal3_composition.specs.Calls.{chainFrom};
 ghost use Rattle.sgal3_composition.specs.declared.Answer.the-variants.{Done, Refused};
 ghost use Rattle.handset.specs.Blocks as Blocks;
@@ -175,36 +175,40 @@ pub fn chain(s: &[u8], most: usize) -> Answer
 
 fn put_vector(out: &mut [u8], at: usize, a: Vec3)
     requires { ⌜ at + 24 ≤ length (now out) ⌝ }
+    requires { ⌜ allFinite (Steps.vectorValues a) ≡ true ⌝ }
     ensures { λ _. ⌜ now (out .exit) ≡ sets (now (out .entry)) at (Blocks.vectorBytes a) ⌝ }
 {
-    words::put_value(out, at, a.x);
-    words::put_value(out, at + 8, a.y);
-    words::put_value(out, at + 16, a.z);
+    words::put_finite_value(out, at, a.x);
+    words::put_finite_value(out, at + 8, a.y);
+    words::put_finite_value(out, at + 16, a.z);
 }
 
 fn put_quaternion(out: &mut [u8], at: usize, q: Quaternion)
     requires { ⌜ at + 32 ≤ length (now out) ⌝ }
+    requires { ⌜ allFinite (Steps.quaternionValues q) ≡ true ⌝ }
     ensures { λ _. ⌜ now (out .exit) ≡ sets (now (out .entry)) at (Blocks.quaternionBytes q) ⌝ }
 {
-    words::put_value(out, at, q.w);
-    words::put_value(out, at + 8, q.x);
-    words::put_value(out, at + 16, q.y);
-    words::put_value(out, at + 24, q.z);
+    words::put_finite_value(out, at, q.w);
+    words::put_finite_value(out, at + 8, q.x);
+    words::put_finite_value(out, at + 16, q.y);
+    words::put_finite_value(out, at + 24, q.z);
 }
 
 fn put_element(out: &mut [u8], e: Element)
     requires { ⌜ length (now out) ≡ 88 ⌝ }
+    requires { ⌜ allFinite (coeffs e) ≡ true ⌝ }
     ensures { λ _. ⌜ now (out .exit) ≡ Blocks.elementBytes e ⌝ }
 {
     put_vector(out, 0, e.translation);
     put_quaternion(out, 24, e.rotation);
     put_vector(out, 56, e.velocity);
-    words::put_value(out, 80, e.time);
+    words::put_finite_value(out, 80, e.time);
 }
 
 // The number of an answer. An element is stored, and a refusal leaves out as it is.
 fn finish(answer: Answer, out: &mut [u8]) -> u32
     requires { ⌜ length (now out) ≡ 88 ⌝ }
+    requires { ⌜ Steps.Finite answer ⌝ }
     ensures { λ r. ⌜ (r ≡ Entries.number answer) × (now (out .exit) ≡ Entries.written answer (now (out .entry))) ⌝ }
 {
     match answer {

@@ -1,7 +1,7 @@
 -- Worked values of the formulas at the rounded arithmetic, as bit patterns: inputs at which another order of operations gives other bits.
 -- `orders` and `series-orders` (proofs/Orders.antt) prove the two lists.
 use Prim.Native.Nat.{ℕ}
-use mathlib.Core.List.{List, [], _∷_, map, _++_}
+use mathlib.Core.List.{List, [], _∷_, map}
 use lib.ListN.{take, getD}
 use lib.Ieee.{Float, ofBits, toBits, binary64}
 use Rattle.law.specs.Vector as Vector
@@ -35,22 +35,18 @@ vectorValues a = a .x ∷ a .y ∷ a .z ∷ []
 abbrev quaternionValues : Quaternion Float → List Float
 quaternionValues q = q .w ∷ q .x ∷ q .y ∷ q .z ∷ []
 
-abbrev rows : List (List Float) → List Float
-rows [] = []
-rows (r ∷ m) = r ++ rows m
-
 -- row i of a matrix
 abbrev row : ℕ → List (List Float) → List Float
 row i m = getD m i []
 
 abbrev matrixValues : Matrix Float → List Float
-matrixValues m = rows (vectorValues (m .row0) ∷ vectorValues (m .row1) ∷ vectorValues (m .row2) ∷ [])
+matrixValues m = Rows.byRow (vectorValues (m .row0) ∷ vectorValues (m .row1) ∷ vectorValues (m .row2) ∷ [])
 
 abbrev elementValues : Element Float → List Float
-elementValues a = rows (vectorValues (a .translation) ∷ quaternionValues (a .rotation) ∷ vectorValues (a .velocity) ∷ value (a .time) ∷ [])
+elementValues a = Rows.byRow (vectorValues (a .translation) ∷ quaternionValues (a .rotation) ∷ vectorValues (a .velocity) ∷ value (a .time) ∷ [])
 
 abbrev tangentValues : Tangent Float → List Float
-tangentValues ξ = rows (vectorValues (ξ .rho) ∷ vectorValues (ξ .nu) ∷ vectorValues (ξ .theta) ∷ value (ξ .s) ∷ [])
+tangentValues ξ = Rows.byRow (vectorValues (ξ .rho) ∷ vectorValues (ξ .nu) ∷ vectorValues (ξ .theta) ∷ value (ξ .s) ∷ [])
 
 -- an input, by the patterns of its values
 abbrev floats : List ℕ → List Float
@@ -300,25 +296,25 @@ workedOrders =
     ∷ of vectorValues (Galilean.act rounded (element origin q7·1·5·11 origin zero) ones)
     (0xbfe8_29cb_c14e_5e06 ∷ 0x3ff1_4e5e_0a72_f055 ∷ 0x3ff1_f58d_0fac_687d ∷ [])
     -- the matrix, normalised twice
-    ∷ of rows (Galilean.matrix rounded (element (vector one two three) q7·1·5·11 (vector four five six) eight))
+    ∷ of Rows.byRow (Galilean.matrix rounded (element (vector one two three) q7·1·5·11 (vector four five six) eight))
     (0xbfdf_58d0_fac6_87d4 ∷ 0xbfe7_829c_bc14_e5e0 ∷ 0x3fde_0a72_f053_9782 ∷ four ∷ one
     ∷ 0x3fea_c687_d634_3eb0 ∷ 0xbfcf_58d0_fac6_87d0 ∷ 0x3fdf_58d0_fac6_87d6 ∷ five ∷ two
     ∷ 0xbfcf_58d0_fac6_87d8 ∷ 0x3fe4_3eb1_a1f5_8d0f ∷ 0x3fe7_829c_bc14_e5df ∷ six ∷ three
     ∷ zero ∷ zero ∷ zero ∷ one ∷ eight
     ∷ zero ∷ zero ∷ zero ∷ zero ∷ one ∷ [])
     -- the first three rows of the adjoint: all nine values of (hat t - s hat v) R differ in the expansion; and normalised twice
-    ∷ of rows (take 3 (Galilean.adjoint rounded (element (vector six three six) q5113 (vector six five five) one)))
+    ∷ of Rows.byRow (take 3 (Galilean.adjoint rounded (element (vector six three six) q5113 (vector six five five) one)))
     (0x3fdc_71c7_1c71_c71e ∷ 0xbfe8_e38e_38e3_8e39 ∷ 0x3fdc_71c7_1c71_c71c ∷ 0xbfdc_71c7_1c71_c71e ∷ 0x3fe8_e38e_38e3_8e39 ∷ 0xbfdc_71c7_1c71_c71c
     ∷ 0xbfe5_5555_5555_5556 ∷ 0xbff5_5555_5555_5556 ∷ 0xbffa_aaaa_aaaa_aaab ∷ six
     ∷ 0x3fec_71c7_1c71_c71d ∷ 0x3fdc_71c7_1c71_c71e ∷ 0xbfbc_71c7_1c71_c71e ∷ 0xbfec_71c7_1c71_c71d ∷ 0xbfdc_71c7_1c71_c71e ∷ 0x3fbc_71c7_1c71_c71e
     ∷ 0x3fdc_71c7_1c71_c71e ∷ 0xbfe8_e38e_38e3_8e39 ∷ 0x3fdc_71c7_1c71_c71c ∷ five
     ∷ 0xbfbc_71c7_1c71_c71e ∷ 0x3fdc_71c7_1c71_c71c ∷ 0x3fec_71c7_1c71_c71d ∷ 0x3fbc_71c7_1c71_c71e ∷ 0xbfdc_71c7_1c71_c71c ∷ 0xbfec_71c7_1c71_c71d
     ∷ 0x3fec_71c7_1c71_c71e ∷ 0xbff8_e38e_38e3_8e39 ∷ 0x3fec_71c7_1c71_c71c ∷ five ∷ [])
-    ∷ of rows (take 1 (Galilean.adjoint rounded (element (vector one two three) q7·1·5·11 (vector four five six) eight)))
+    ∷ of Rows.byRow (take 1 (Galilean.adjoint rounded (element (vector one two three) q7·1·5·11 (vector four five six) eight)))
     (0xbfdf_58d0_fac6_87d4 ∷ 0xbfe7_829c_bc14_e5e0 ∷ 0x3fde_0a72_f053_9782 ∷ 0x400f_58d0_fac6_87d4 ∷ 0x4017_829c_bc14_e5e0 ∷ 0xc00e_0a72_f053_9782
     ∷ 0x4047_7ac6_87d6_343e ∷ 0xc041_87d6_343e_b1a0 ∷ 0xc017_829c_bc14_e5dc ∷ four ∷ [])
     -- -s I is nine products: -0 off the diagonal
-    ∷ of rows (take 3 (Galilean.smallAdj rounded (tangent origin origin origin one)))
+    ∷ of Rows.byRow (take 3 (Galilean.smallAdj rounded (tangent origin origin origin one)))
     (zero ∷ minusZero ∷ zero ∷ minusOne ∷ minusZero ∷ minusZero
     ∷ zero ∷ minusZero ∷ zero ∷ zero
     ∷ zero ∷ zero ∷ minusZero ∷ minusZero ∷ minusOne ∷ minusZero
@@ -333,7 +329,7 @@ workedOrders =
     ∷ 0x3ff7_1c71_c71c_71c7 ∷ 0xbfe5_5555_5555_5556 ∷ 0x4004_71c7_1c71_c71d
     ∷ 0xc001_c71c_71c7_1c72 ∷ 0x3ff1_c71c_71c7_1c72 ∷ 0xbff1_c71c_71c7_1c72 ∷ zero ∷ [])
     -- the 6 by 6 hat
-    ∷ of rows (Galilean.hat rounded (tangent (vector one two three) (vector four five six) (vector eight nine ten) half))
+    ∷ of Rows.byRow (Galilean.hat rounded (tangent (vector one two three) (vector four five six) (vector eight nine ten) half))
     (zero ∷ 0xc024_0000_0000_0000 ∷ nine ∷ one ∷ four ∷ zero
     ∷ ten ∷ zero ∷ 0xc020_0000_0000_0000 ∷ two ∷ five ∷ zero
     ∷ 0xc022_0000_0000_0000 ∷ eight ∷ zero ∷ three ∷ six ∷ zero
@@ -353,7 +349,7 @@ workedOrders =
     -- compose's: normalised four times, twice by inverse and twice by the adjoint
     ∷ of (row 0) (Galilean.composeJacobianSelf rounded (element origin unit origin zero) (element origin q10·14·17·16 origin zero))
     (0xbfd2_f2e9_2b87_7531 ∷ 0x3fee_49aa_28ca_1f0b ∷ 0x3fc0_7004_ded2_091e ∷ minusZero ∷ zero ∷ zero ∷ zero ∷ zero ∷ zero ∷ minusZero ∷ [])
-    ∷ of rows (Galilean.jacobianIdentity rounded)
+    ∷ of Rows.byRow (Galilean.jacobianIdentity rounded)
     (one ∷ zero ∷ zero ∷ zero ∷ zero ∷ zero ∷ zero ∷ zero ∷ zero ∷ zero
     ∷ zero ∷ one ∷ zero ∷ zero ∷ zero ∷ zero ∷ zero ∷ zero ∷ zero ∷ zero
     ∷ zero ∷ zero ∷ one ∷ zero ∷ zero ∷ zero ∷ zero ∷ zero ∷ zero ∷ zero
@@ -365,7 +361,7 @@ workedOrders =
     ∷ zero ∷ zero ∷ zero ∷ zero ∷ zero ∷ zero ∷ zero ∷ zero ∷ one ∷ zero
     ∷ zero ∷ zero ∷ zero ∷ zero ∷ zero ∷ zero ∷ zero ∷ zero ∷ zero ∷ one ∷ [])
     -- act's: R is negated before the product by hat p: the diagonal of that block is -0 if after it; and normalised twice
-    ∷ of rows (Galilean.actJacobianSelf rounded (element origin unit (vector one two three) two) (vector one two three))
+    ∷ of Rows.byRow (Galilean.actJacobianSelf rounded (element origin unit (vector one two three) two) (vector one two three))
     (one ∷ zero ∷ zero ∷ two ∷ zero ∷ zero ∷ zero ∷ three ∷ minusTwo ∷ two
     ∷ zero ∷ one ∷ zero ∷ zero ∷ two ∷ zero ∷ minusThree ∷ zero ∷ one ∷ four
     ∷ zero ∷ zero ∷ one ∷ zero ∷ zero ∷ two ∷ two ∷ minusOne ∷ zero ∷ six ∷ [])

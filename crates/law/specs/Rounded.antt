@@ -1,7 +1,7 @@
 -- The arithmetic of the code: binary64, each operation rounded as IEEE 754 says. Definitions only.
 use lib.Ieee.{Float, ofBits, binary64}
 use lib.Ieee as Ieee
-use Rattle.number.specs.Root.{squareRoot}
+use Rattle.float.specs.Root.{squareRoot}
 use Rattle.law.specs.Arithmetic.{Arithmetic}
 use Rattle.law.specs.GalileanSeries.{Divisors}
 

@@ -97,7 +97,7 @@ impl Vec3 {
     pub fn norm(self) -> f64
         ensures { λ r. ⌜ r ≡ Vectors.norm self ⌝ }
     {
-        number::sqrt(self.norm_squared())
+        float::sqrt(self.norm_squared())
     }
 }
 
@@ -134,7 +134,7 @@ impl Quaternion {
     pub fn norm(self) -> f64
         ensures { λ r. ⌜ r ≡ Quaternions.norm self ⌝ }
     {
-        number::sqrt((self.x * self.x + self.z * self.z) + (self.y * self.y + self.w * self.w))
+        float::sqrt((self.x * self.x + self.z * self.z) + (self.y * self.y + self.w * self.w))
     }
 
     pub fn divide(self, k: f64) -> Quaternion

@@ -1,5 +1,5 @@
 -- What a call came to, as bytes. Definitions only.
-use Prim.Native.Nat.{ℕ}
+use Prim.Native.Nat.{ℕ, _≤_}
 use mathlib.Core.Path.{_≡_}
 use mathlib.Core.Bool.{Bool, cond}
 use mathlib.Core.List.{List, [], _∷_, _++_}
@@ -119,6 +119,8 @@ ofNumber (Number·Refused r) = ofCheck (Refused r)
 unfoldable pub ofMatrix10 : Matrix10Answer → List ℕ
 ofMatrix10 a = header (a .outcome) 100 ++ rowBits (a .rows)
 
--- n bytes, at the start of what held `before` and holds `after`
-abbrev pub Put : ℕ → List ℕ → List ℕ → List ℕ → Type 0
-Put n before after bytes = (n ≡ length bytes) × (after ≡ sets before 0 bytes)
+-- n bytes, at the start of what held `before` and holds `after`; they fit there
+pub record Put (n : ℕ) (before after bytes : List ℕ) : Type 0 where
+  pub returned : n ≡ length bytes
+  pub stored : after ≡ sets before 0 bytes
+  pub fits : n ≤ length before

@@ -3,7 +3,7 @@ use Prim.Native.Nat.{ℕ, _+_, _≤_, _<_}
 use mathlib.Core.Path.{_≡_, sym, ap, _∙_}
 use mathlib.Core.List.{List, _++_}
 use native.Mathlib.Omega.{arith}
-use lib.ListN.{length, take, drop, length-take}
+use lib.ListN.{length, take, drop}
 use lib.Seq.{sets, sets-eq, take-at, length-sets}
 use Rattle.checks.specs.Refusals.{number}
 use Rattle.checks.specs.declared.Refusal.{Refusal}
@@ -38,4 +38,4 @@ written l x a n h p q =
     let s : length (text a) ≤ 220 = text-short a in
     let e : x ≡ text a ++ drop (0 + length (text a)) l = q ∙ sets-eq (text a) l 0 (omega arith) in
     let w : length x ≡ 220 = ap length q ∙ length-sets l 0 (text a) ∙ h in
-    (omega arith, omega (arith, length-take n x), ap (take n) e ∙ take-at (text a) (drop (0 + length (text a)) l) n (sym p))
+    (omega arith, ap (take n) e ∙ take-at (text a) (drop (0 + length (text a)) l) n (sym p))

@@ -20,4 +20,4 @@ reportOf input = text (Blocks.chain 65472 input)
 
 -- the first n bytes of out are t
 abbrev pub Written : ℕ → List ℕ → List ℕ → Type 0
-Written n out t = (n ≤ length out) × (n ≡ length (take n out)) × (take n out ≡ t)
+Written n out t = (n ≤ length out) × (take n out ≡ t)

@@ -24,12 +24,21 @@ use Rattle.sgal3_matrix_blocks.specs.Calls as GalileanMatrices
 use Rattle.manifold_sgal3_blocks.specs.Calls as GalileanGroup
 use Rattle.outcomes.specs.Outcomes as Outcomes
 
--- the checks of a block
+-- of four values: the one call that takes no block
+unfoldable pub quaternionCall : List Float → List ℕ
+quaternionCall left =
+    cond (eqb (length left) 4) (Outcomes.ofRotation (Rotations.tryFromQuaternionWxyz (getD left 0 nan) (getD left 1 nan) (getD left 2 nan) (getD left 3 nan))) []
+
+unfoldable pub generatorCall : ℕ → List ℕ
+generatorCall extra = Outcomes.outcome Passed (Algebra.generator extra)
+
+-- the checks of a block, and an element as given
 unfoldable pub checkCall : ℕ → List Float → List Float → ℕ → List ℕ
 checkCall call left right extra =
     cond (eqb call 0) (Outcomes.ofCheck (Checks.validateSgal3Params left))
     (cond (eqb call 1) (Outcomes.ofCheck (Checks.validateSo3Params left))
-    [])
+    (cond (eqb call 2) (Outcomes.ofElement (Composition.fromParamSlice left))
+    []))
 
 -- a rotation, and two composed
 unfoldable pub rotationCall : ℕ → List Float → List Float → ℕ → List ℕ
@@ -102,47 +111,37 @@ rotationMinusCall call left right extra =
     (cond (eqb call 51) (Outcomes.ofMatrix3 (RotationsGroup.leftMinusJacobianOther left right))
     [])))))
 
--- what leads from one rotation to another
+-- what leads from one rotation to another; plus and minus of rotations by their short names
 unfoldable pub rotationBetweenCall : ℕ → List Float → List Float → ℕ → List ℕ
 rotationBetweenCall call left right extra =
     cond (eqb call 52) (Outcomes.ofRotation (RotationsGroup.between left right))
     (cond (eqb call 53) (Outcomes.ofMatrix3 (RotationsGroup.betweenJacobianSelf left right))
     (cond (eqb call 54) (Outcomes.ofMatrix3 (Rotations.composeJacobianOther left right))
-    []))
-
--- plus and minus of rotations by their short names
-unfoldable pub rotationDefaultCall : ℕ → List Float → List Float → ℕ → List ℕ
-rotationDefaultCall call left right extra =
-    cond (eqb call 55) (Outcomes.ofRotation (RotationsGroup.rightPlus left right))
+    (cond (eqb call 55) (Outcomes.ofRotation (RotationsGroup.rightPlus left right))
     (cond (eqb call 56) (Outcomes.ofMatrix3 (RotationsGroup.rightPlusJacobianSelf left right))
     (cond (eqb call 57) (Outcomes.ofMatrix3 (RotationsGroup.rightPlusJacobianTangent left right))
     (cond (eqb call 58) (Outcomes.ofRotationTangent (RotationsGroup.rightMinus left right))
     (cond (eqb call 59) (Outcomes.ofMatrix3 (RotationsGroup.rightMinusJacobianSelf left right))
     (cond (eqb call 60) (Outcomes.ofMatrix3 (RotationsGroup.rightMinusJacobianOther left right))
-    [])))))
+    []))))))))
 
--- the Galilean calls that the handset makes
-unfoldable pub compositionCall : ℕ → List Float → List Float → ℕ → List ℕ
-compositionCall call left right extra =
+-- elements of the Galilean group: the calls that the handset makes, and the parts of one
+unfoldable pub elementCall : ℕ → List Float → List Float → ℕ → List ℕ
+elementCall call left right extra =
     cond (eqb call 70) (Outcomes.ofElement (Composition.compose left right))
     (cond (eqb call 71) (Outcomes.ofElement (Composition.inverse left))
     (cond (eqb call 72) (Outcomes.ofElement (Composition.chain left))
-    []))
-
--- the parts of an element of the Galilean group
-unfoldable pub partCall : ℕ → List Float → List Float → ℕ → List ℕ
-partCall call left right extra =
-    cond (eqb call 73) (Outcomes.ofVector (Galilean.translation left))
+    (cond (eqb call 73) (Outcomes.ofVector (Galilean.translation left))
     (cond (eqb call 74) (Outcomes.ofVector (Galilean.velocity left))
     (cond (eqb call 75) (Outcomes.ofNumber (Galilean.time left))
     (cond (eqb call 76) (Outcomes.ofRotation (Galilean.rotationQuaternion left))
     (cond (eqb call 77) (Outcomes.ofMatrix3 (Galilean.rotationMatrix left))
     (cond (eqb call 78) (Outcomes.outcome (Galilean.coeffs left .outcome) (Galilean.coeffs left .values))
-    [])))))
+    []))))))))
 
 -- the logarithm of an element of the Galilean group, and what it acts on
-unfoldable pub elementCall : ℕ → List Float → List Float → ℕ → List ℕ
-elementCall call left right extra =
+unfoldable pub logCall : ℕ → List Float → List Float → ℕ → List ℕ
+logCall call left right extra =
     cond (eqb call 79) (Outcomes.ofTangent (Galilean.log left))
     (cond (eqb call 80) (Outcomes.ofTangent (Galilean.log left))
     (cond (eqb call 81) (Outcomes.ofVector (Galilean.act left right))
@@ -162,103 +161,56 @@ tangentCall call left right extra =
     (cond (eqb call 90) (Outcomes.ofElement (Composition.elementAnswer Elements.identity))
     [])))))
 
--- the matrices of elements of the Galilean group
-unfoldable pub elementMatrixCall : ℕ → List Float → List Float → ℕ → List ℕ
-elementMatrixCall call left right extra =
-    cond (eqb call 92) (Outcomes.outcome (GalileanMatrices.matrix left .outcome) (GalileanMatrices.matrix left .values))
+-- the matrices of the Galilean group
+unfoldable pub matrixCall : ℕ → List Float → List Float → ℕ → List ℕ
+matrixCall call left right extra =
+    cond (eqb call 91) (generatorCall extra)
+    (cond (eqb call 92) (Outcomes.outcome (GalileanMatrices.matrix left .outcome) (GalileanMatrices.matrix left .values))
     (cond (eqb call 93) (Outcomes.ofMatrix10 (GalileanMatrices.adjoint left))
     (cond (eqb call 94) (Outcomes.ofMatrix10 (GalileanMatrices.inverseJacobian left))
     (cond (eqb call 95) (Outcomes.ofMatrix10 (GalileanMatrices.composeJacobianSelf left right))
     (cond (eqb call 96) (Outcomes.ofMatrix10 (GalileanMatrices.composeJacobianOther left right))
-    []))))
-
--- the Jacobian of what an element acts on, and the matrices of a tangent
-unfoldable pub jacobianCall : ℕ → List Float → List Float → ℕ → List ℕ
-jacobianCall call left right extra =
-    cond (eqb call 97) (Outcomes.outcome (GalileanMatrices.actJacobianSelf left right .outcome) (GalileanMatrices.actJacobianSelf left right .values))
+    (cond (eqb call 97) (Outcomes.outcome (GalileanMatrices.actJacobianSelf left right .outcome) (GalileanMatrices.actJacobianSelf left right .values))
     (cond (eqb call 98) (Outcomes.outcome (GalileanMatrices.hat left .outcome) (GalileanMatrices.hat left .values))
     (cond (eqb call 99) (Outcomes.ofMatrix10 (GalileanMatrices.smallAdj left))
-    []))
+    []))))))))
 
--- plus of an element and a tangent, from either side
+-- plus of an element and a tangent, and minus of two elements, from either side
 unfoldable pub plusCall : ℕ → List Float → List Float → ℕ → List ℕ
 plusCall call left right extra =
     cond (eqb call 100) (Outcomes.ofElement (GalileanGroup.rightPlus left right))
     (cond (eqb call 101) (Outcomes.ofMatrix10 (GalileanGroup.rightPlusJacobianSelf left right))
     (cond (eqb call 102) (Outcomes.ofElement (GalileanGroup.leftPlus left right))
     (cond (eqb call 103) (Outcomes.ofMatrix10 (GalileanGroup.leftPlusJacobianSelf left right))
-    [])))
-
--- minus and between of two elements
-unfoldable pub minusCall : ℕ → List Float → List Float → ℕ → List ℕ
-minusCall call left right extra =
-    cond (eqb call 104) (Outcomes.ofTangent (GalileanGroup.rightMinus left right))
+    (cond (eqb call 104) (Outcomes.ofTangent (GalileanGroup.rightMinus left right))
     (cond (eqb call 105) (Outcomes.ofTangent (GalileanGroup.leftMinus left right))
-    (cond (eqb call 106) (Outcomes.ofElement (GalileanGroup.between left right))
+    [])))))
+
+-- what leads from one element to another; plus and minus of elements by their short names
+unfoldable pub betweenCall : ℕ → List Float → List Float → ℕ → List ℕ
+betweenCall call left right extra =
+    cond (eqb call 106) (Outcomes.ofElement (GalileanGroup.between left right))
     (cond (eqb call 107) (Outcomes.ofMatrix10 (GalileanGroup.betweenJacobianSelf left right))
     (cond (eqb call 108) (Outcomes.ofMatrix10 (GalileanMatrices.composeJacobianOther left right))
-    []))))
-
--- plus and minus of elements by their short names
-unfoldable pub defaultCall : ℕ → List Float → List Float → ℕ → List ℕ
-defaultCall call left right extra =
-    cond (eqb call 109) (Outcomes.ofElement (GalileanGroup.rightPlus left right))
+    (cond (eqb call 109) (Outcomes.ofElement (GalileanGroup.rightPlus left right))
     (cond (eqb call 110) (Outcomes.ofMatrix10 (GalileanGroup.rightPlusJacobianSelf left right))
     (cond (eqb call 111) (Outcomes.ofTangent (GalileanGroup.rightMinus left right))
-    []))
-
--- of four values: the one call that takes no block
-unfoldable pub quaternionCall : List Float → List ℕ
-quaternionCall left =
-    cond (eqb (length left) 4) (Outcomes.ofRotation (Rotations.tryFromQuaternionWxyz (getD left 0 nan) (getD left 1 nan) (getD left 2 nan) (getD left 3 nan))) []
-
-unfoldable pub generatorCall : ℕ → List ℕ
-generatorCall extra = Outcomes.outcome Passed (Algebra.generator extra)
-
--- the calls on rotations and their tangents
-unfoldable pub so3Call : ℕ → List Float → List Float → ℕ → List ℕ
-so3Call call left right extra =
-    cond (ltb call 18) (rotationCall call left right extra)
-    (cond (ltb call 26) (rotationLogCall call left right extra)
-    (cond (ltb call 32) (rotationExpCall call left right extra)
-    (rotationTangentCall call left right extra)))
-
--- the group-wide calls on rotations
-unfoldable pub so3ManifoldCall : ℕ → List Float → List Float → ℕ → List ℕ
-so3ManifoldCall call left right extra =
-    cond (ltb call 46) (rotationPlusCall call left right extra)
-    (cond (ltb call 52) (rotationMinusCall call left right extra)
-    (cond (ltb call 55) (rotationBetweenCall call left right extra)
-    (rotationDefaultCall call left right extra)))
-
--- the Galilean calls on elements and tangents
-unfoldable pub sgal3Call : ℕ → List Float → List Float → ℕ → List ℕ
-sgal3Call call left right extra =
-    cond (ltb call 73) (compositionCall call left right extra)
-    (cond (ltb call 79) (partCall call left right extra)
-    (cond (ltb call 85) (elementCall call left right extra)
-    (tangentCall call left right extra)))
-
--- the Galilean calls that answer with a matrix
-unfoldable pub sgal3MatrixCall : ℕ → List Float → List Float → ℕ → List ℕ
-sgal3MatrixCall call left right extra =
-    cond (eqb call 91) (generatorCall extra)
-    (cond (ltb call 97) (elementMatrixCall call left right extra)
-    (jacobianCall call left right extra))
-
--- the group-wide Galilean calls
-unfoldable pub sgal3ManifoldCall : ℕ → List Float → List Float → ℕ → List ℕ
-sgal3ManifoldCall call left right extra =
-    cond (ltb call 104) (plusCall call left right extra)
-    (cond (ltb call 109) (minusCall call left right extra)
-    (defaultCall call left right extra))
+    [])))))
 
 unfoldable pub answer : ℕ → List Float → List Float → ℕ → List ℕ
 answer call left right extra =
     cond (ltb call 10) (checkCall call left right extra)
-    (cond (eqb call 10) (quaternionCall left)
-    (cond (ltb call 40) (so3Call call left right extra)
-    (cond (ltb call 70) (so3ManifoldCall call left right extra)
-    (cond (ltb call 91) (sgal3Call call left right extra)
-    (cond (ltb call 100) (sgal3MatrixCall call left right extra)
-    (sgal3ManifoldCall call left right extra))))))
+    (cond (ltb call 11) (quaternionCall left)
+    (cond (ltb call 18) (rotationCall call left right extra)
+    (cond (ltb call 26) (rotationLogCall call left right extra)
+    (cond (ltb call 32) (rotationExpCall call left right extra)
+    (cond (ltb call 40) (rotationTangentCall call left right extra)
+    (cond (ltb call 46) (rotationPlusCall call left right extra)
+    (cond (ltb call 52) (rotationMinusCall call left right extra)
+    (cond (ltb call 70) (rotationBetweenCall call left right extra)
+    (cond (ltb call 79) (elementCall call left right extra)
+    (cond (ltb call 85) (logCall call left right extra)
+    (cond (ltb call 91) (tangentCall call left right extra)
+    (cond (ltb call 100) (matrixCall call left right extra)
+    (cond (ltb call 106) (plusCall call left right extra)
+    (betweenCall call left right extra))))))))))))))

@@ -286,20 +286,17 @@ module _ {A : Type 0} (𝓡 : Ring A) (ρ : ℕ → A) where
       ∙ ap (λ s. s ⊕ neg (value p)) (Algebra.neg-mul 𝓡 (Algebra.coef 𝓡 (t .plus) (t .less)) (mono (t .vars)))
       ∙ sym (Algebra.neg-add 𝓡 (term t) (value p))
 
+  -- the coefficient 1 - 0
+  unit : 𝟘 ⊕ 𝟙 ⊕ neg 𝟘 ≡ 𝟙
+  unit = ap₂ (λ a b. a ⊕ b) (Algebra.zero-add 𝓡 𝟙) (Algebra.neg-zero 𝓡) ∙ add-zero 𝟙
+
   single : (i : ℕ) → value (norm (var i)) ≡ ρ i
   unfolding norm
-  single i =
-      add-zero (term (record { plus = 1; less = 0; vars = i ∷ [] }))
-      ∙ ap₂ (λ a b. a ⊗ b) unit (mul-one (ρ i)) ∙ Algebra.one-mul 𝓡 (ρ i)
-    where
-      unit : 𝟘 ⊕ 𝟙 ⊕ neg 𝟘 ≡ 𝟙
-      unit = ap₂ (λ a b. a ⊕ b) (Algebra.zero-add 𝓡 𝟙) (Algebra.neg-zero 𝓡) ∙ add-zero 𝟙
+  single i = add-zero (term (record { plus = 1; less = 0; vars = i ∷ [] })) ∙ ap₂ (λ a b. a ⊗ b) unit (mul-one (ρ i)) ∙ Algebra.one-mul 𝓡 (ρ i)
 
   whole : value (norm one) ≡ 𝟙
   unfolding norm
-  whole =
-      add-zero (term (record { plus = 1; less = 0; vars = [] })) ∙ mul-one (𝟘 ⊕ 𝟙 ⊕ neg 𝟘)
-      ∙ ap₂ (λ a b. a ⊕ b) (Algebra.zero-add 𝓡 𝟙) (Algebra.neg-zero 𝓡) ∙ add-zero 𝟙
+  whole = add-zero (term (record { plus = 1; less = 0; vars = [] })) ∙ mul-one (𝟘 ⊕ 𝟙 ⊕ neg 𝟘) ∙ unit
 
   norm-is : (e : Expr) → value (norm e) ≡ eval e
   unfolding norm eval

@@ -12,8 +12,8 @@ use lib.Ieee.{Float, nan, inf, fin, binary64, unlike, up, down, round, neg, sum,
 use lib.Ieee.Bits.{is-true, is-false}
 use lib.Ieee.Fits.{up-pos, down-pos, neg-fits}
 use lib.Ieee.Scale.{finite, round-same}
-use Rattle.number.specs.Exact.{shift, count, negative, signed, exact}
-use Rattle.number.proofs.Counts.{fraction}
+use Rattle.float.specs.Exact.{shift, count, negative, signed, exact}
+use Rattle.float.proofs.Counts.{fraction}
 use Rattle.rounding.specs.Number.{Number, plusPart, minusPart}
 use Rattle.rounding.proofs.Integers.{above, below, abs-neg}
 

@@ -5,7 +5,7 @@ use Prim.Native.Nat.{ℕ, zero, suc, _+_, _-_, _≤_, _<_}
 use native.Mathlib.Omega.{arith}
 use lib.Dec.{T, ltb, ltb→lt, nltb→le}
 use lib.IntN.{ℤ, pos, negsuc, negℤ, natAbs, subℕ, _+ℤ_, _-ℤ_}
-use Rattle.number.specs.Exact.{signed}
+use Rattle.float.specs.Exact.{signed}
 
 -- |a - b|
 abbrev pub dist : ℕ → ℕ → ℕ

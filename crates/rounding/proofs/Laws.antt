@@ -1,5 +1,7 @@
 -- The laws of rounding that other crates cite, by subject. x and y are numbers (finite binary64), counts are of 2 ^ -1074, and `one` is how many of them 1 is.
 
+-- an integer as a difference of two whole numbers, and their distance
+pub use Rattle.rounding.proofs.Integers.{dist, above, below, difference-self, difference-add, difference-less, difference-abs}
 -- a number: its exact value, its magnitude's count, and its parts above and below zero
 pub use Rattle.rounding.proofs.Counts.{exact-size, exact-above, exact-below, parts-sum, plus-parts, minus-parts, one-part}
 -- negation is exact

@@ -10,7 +10,7 @@ use lib.Pow.{pow-pos}
 use lib.IntN.{ℤ, natAbs, negℤ, _+ℤ_, _-ℤ_}
 use lib.Ieee.{Float, nan, inf, fin, binary64, unlike, round, neg, sum, add, sub, mul, div}
 use lib.Ieee.Scale.{finite}
-use Rattle.number.specs.Exact.{count, negative, signed, exact}
+use Rattle.float.specs.Exact.{count, negative, signed, exact}
 use Rattle.rounding.specs.Number.{Number, one, limit, plusPart, minusPart}
 use Rattle.rounding.specs.Error.{Within, RoundedSum}
 use Rattle.rounding.proofs.Integers.{dist, above, below, difference-self, difference-add, difference-less, difference-abs}

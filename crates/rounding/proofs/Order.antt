@@ -11,7 +11,7 @@ use lib.Pow.{pow-pos}
 use lib.Ieee.{Float, nan, inf, fin, up, down, below, level, lt, le, eq}
 use lib.Ieee.Bits.{is-false}
 use lib.Ieee.Fits.{down-pos, eq→eqb, and-i, and-l, and-r}
-use Rattle.number.specs.Exact.{shift, count, negative}
+use Rattle.float.specs.Exact.{shift, count, negative}
 use Rattle.rounding.specs.Number.{Number, plusPart, minusPart}
 use Rattle.rounding.proofs.Counts.{same-lt, left-count, right-count}
 

@@ -15,7 +15,7 @@ use lib.Ieee.Exact.{HasValue, units-val}
 use lib.Ieee.Order.{drop, kept}
 use lib.Ieee.Nearest.{closest}
 use lib.Ieee.Scale.{finite}
-use Rattle.number.proofs.Counts.{Counted, counted}
+use Rattle.float.proofs.Counts.{Counted, counted}
 use Rattle.rounding.specs.Number.{Number, limit}
 use Rattle.rounding.specs.Error.{Within}
 use Rattle.rounding.proofs.Integers.{dist}

@@ -10,11 +10,11 @@ use lib.Pow.{pow-pos, pow-add, pow-mono, pow-lt}
 use lib.Ieee.{Float, nan, inf, fin, binary64, size, nearest, odd, units, fits}
 use lib.Ieee.Digits.{back}
 use lib.Ieee.Fits.{odd-fits, nearest-le, nan-fits}
-use Rattle.number.specs.Exact.{shift, count, negative}
-use Rattle.number.specs.Root.{square, digit, isqrt, nearestRoot, squareRoot}
-use Rattle.number.proofs.Counts.{counted, digits}
-use Rattle.number.proofs.Isqrt.{square-lt}
-use Rattle.number.proofs.Rounding.{Rounding, rounding}
+use Rattle.float.specs.Exact.{shift, count, negative}
+use Rattle.float.specs.Root.{square, digit, isqrt, nearestRoot, squareRoot}
+use Rattle.float.proofs.Counts.{counted, digits}
+use Rattle.float.proofs.Isqrt.{square-lt}
+use Rattle.float.proofs.Rounding.{Rounding, rounding}
 use Rattle.rounding.specs.Number.{Number, one}
 use Rattle.rounding.specs.Error.{Within, RoundedRoot, Nearer}
 use Rattle.rounding.proofs.Round.{value-finite}

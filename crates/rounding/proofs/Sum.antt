@@ -10,8 +10,8 @@ use lib.IntN.{ℤ, pos, negℤ, natAbs, _+ℤ_, _-ℤ_, negℤ-negℤ, negℤ-+�
 use lib.Ieee.{Float, nan, inf, fin, binary64, size, round, sum, add}
 use lib.Ieee.Nearest.{closest, closest-same}
 use lib.Ieee.Scale.{finite}
-use Rattle.number.specs.Exact.{shift, count, negative, signed, exact}
-use Rattle.number.proofs.Counts.{Counted, digits}
+use Rattle.float.specs.Exact.{shift, count, negative, signed, exact}
+use Rattle.float.proofs.Counts.{Counted, digits}
 use Rattle.rounding.specs.Number.{Number}
 use Rattle.rounding.specs.Error.{RoundedSum}
 use Rattle.rounding.proofs.Integers.{dist, Difference, difference-add, difference-less, difference-abs, difference-minus, abs-neg}

@@ -4,7 +4,7 @@ use mathlib.Core.Bool.{cond}
 use lib.Dec.{T}
 use lib.Ieee.{Float, binary64, fits}
 use lib.Ieee.Scale.{finite}
-use Rattle.number.specs.Exact.{count, negative}
+use Rattle.float.specs.Exact.{count, negative}
 
 pub record Number (x : Float) : Type 0 where
   pub isBinary64 : T (fits binary64 x)

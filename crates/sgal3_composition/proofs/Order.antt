@@ -9,7 +9,7 @@ use lib.Dec.{eqb, lit<, lit≤}
 use lib.ListN.{length, take, drop}
 use lib.Ieee.{Float, lt, ofBits, sub, binary64}
 use lib.Ieee.Scale.{finite}
-use Rattle.number.specs.Exact.{abs}
+use Rattle.float.specs.Exact.{abs}
 use Rattle.checks.specs.Refusals.{number, earlier, byNumber, earliest}
 use Rattle.checks.specs.Checks.{tolerance, allFinite, normOf, checkNorm, checkUnitQuaternion, checkValues, next, checkParamBlock}
 use Rattle.checks.specs.declared.Refusal.{Refusal}
@@ -19,6 +19,7 @@ use Rattle.checks.proofs.Order.{Picked, left, right, picked, earliest-le, liter
 use Rattle.sgal3.specs.Elements as Elements
 use Rattle.sgal3_composition.specs.Calls.{ofCheck, checkElement, elementAnswer, firstRefusal, composeAnswers, compose, chainFrom, chainBlocks}
 use Rattle.sgal3_composition.specs.Order.{checks, refusals, step, composeAll, unlessRefused, inOrder}
+use Rattle.sgal3_composition.proofs.Answers.{finished, overflowed}
 use Rattle.sgal3.specs.declared.Element.{Element}
 use Rattle.sgal3_composition.specs.declared.Answer.{Answer}
 use Rattle.sgal3_composition.specs.declared.Answer.the-variants.{Done, Refused}
@@ -123,14 +124,8 @@ in-order a (Done b ∷ os) h = go (allFinite (Elements.coeffs (Elements.compose 
   where
     go : (c : Bool) → allFinite (Elements.coeffs (Elements.compose a b)) ≡ c → folded (Done (Elements.compose a b)) os ≡ unlessRefused (refusals os) (composeAll os (Done (Elements.compose a b)))
         → folded (elementAnswer (Elements.compose a b)) os ≡ unlessRefused (refusals os) (composeAll os (elementAnswer (Elements.compose a b)))
-    go true e ih = rw (finished e) ih
-      where
-        finished : allFinite (Elements.coeffs (Elements.compose a b)) ≡ true → elementAnswer (Elements.compose a b) ≡ Done (Elements.compose a b)
-        finished e = unfold elementAnswer in rw e
-    go false e ih = rw (not-finished e) (from-overflow os (h .1))
-      where
-        not-finished : allFinite (Elements.coeffs (Elements.compose a b)) ≡ false → elementAnswer (Elements.compose a b) ≡ Refused Overflow
-        not-finished e = unfold elementAnswer in rw e
+    go true e ih = rw (finished (Elements.compose a b) e) ih
+    go false e ih = rw (overflowed (Elements.compose a b) e) (from-overflow os (h .1))
 
 pub chain-order : (n : ℕ) (s : List Float) → chainBlocks n s ≡ inOrder Elements.identity (checks n s)
 unfolding chainBlocks

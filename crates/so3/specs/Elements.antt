@@ -3,7 +3,7 @@ use mathlib.Core.Bool.{Bool, false, cond}
 use mathlib.Core.List.{[], _∷_}
 use lib.Ieee.{Float, binary64, sub, neg, lt}
 use lib.Ieee.Scale.{finite}
-use Rattle.number.specs.Exact.{abs}
+use Rattle.float.specs.Exact.{abs}
 use Rattle.checks.specs.Checks.{normOf}
 use Rattle.law.specs.Rounded.{rounded}
 use Rattle.law.specs.Vector as Vector

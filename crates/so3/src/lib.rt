@@ -114,12 +114,12 @@ impl Element {
     pub fn is_valid(self, tolerance: f64) -> bool
         ensures { λ r. ⌜ r ≡ Elements.isValid self tolerance ⌝ }
     {
-        if !number::is_finite(tolerance) {
+        if !float::is_finite(tolerance) {
             return false;
         }
         let q = self.params;
-        let norm = number::sqrt(q.w * q.w + q.x * q.x + q.y * q.y + q.z * q.z);
-        number::magnitude(norm - 1.0) < tolerance
+        let norm = float::sqrt(q.w * q.w + q.x * q.x + q.y * q.y + q.z * q.z);
+        float::magnitude(norm - 1.0) < tolerance
     }
 
     // ---- Jacobians

@@ -6,7 +6,7 @@ use mathlib.Core.List.{List}
 use native.Mathlib.Numerals.{add-one}
 use native.Mathlib.Omega.{arith}
 use lib.Dec.{eqb}
-use Rattle.number.specs.Root.{squareRootBits}
+use Rattle.float.specs.Root.{squareRootBits}
 use Rattle.words.specs.Word.{wordAt}
 use Rattle.sqrt_pairs.specs.Pairs.{wrong, wrongPairs}
 

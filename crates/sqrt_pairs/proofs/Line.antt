@@ -1,7 +1,7 @@
 -- The line of a pattern: how many digits it has, and what two runs of stores leave. Assumes nothing.
 use Prim.Native.Char.{code}
 use Prim.Native.Nat.{ℕ, _+_, _-_, _^_, _≤_, _<_}
-use mathlib.Core.Path.{_≡_, refl, sym, ap, _∙_}
+use mathlib.Core.Path.{_≡_, sym, ap, _∙_}
 use mathlib.Core.List.{List, [], _∷_, _++_, append-assoc}
 use mathlib.Core.Logic.{⊎-elim}
 use native.Mathlib.Nat.{pow-le-pow-right, eq-or-lt-of-le}

@@ -3,7 +3,7 @@ use Prim.Native.Nat.{ℕ, zero, suc, _+_, _*_}
 use mathlib.Core.Bool.{cond}
 use mathlib.Core.List.{List}
 use lib.Dec.{eqb}
-use Rattle.number.specs.Root.{squareRootBits}
+use Rattle.float.specs.Root.{squareRootBits}
 use Rattle.words.specs.Word.{wordAt}
 
 -- 1 where the pattern root is not that of the root of b

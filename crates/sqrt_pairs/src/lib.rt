@@ -6,7 +6,7 @@ ghost use mathlib.Core.Bool.{false};
 ghost use lib.Dec.{eqb};
 ghost use lib.ListN.{length};
 ghost use lib.Seq.{sets};
-ghost use Rattle.number.specs.Root.{squareRootBits};
+ghost use Rattle.float.specs.Root.{squareRootBits};
 ghost use Rattle.sqrt_pairs.specs.Line.{patternLine};
 ghost use Rattle.sqrt_pairs.specs.Pairs.{wrong, wrongPairs};
 
@@ -14,14 +14,14 @@ ghost use Rattle.sqrt_pairs.specs.Pairs.{wrong, wrongPairs};
 pub fn root_by_value(b: u64) -> u64
     ensures { λ r. ⌜ r ≡ squareRootBits b ⌝ }
 {
-    words::to_bits(number::sqrt(words::of_bits(b)))
+    words::to_bits(float::sqrt(words::of_bits(b)))
 }
 
 // Whether both functions give the stored root.
 fn is_root(b: u64, root: u64) -> bool
     ensures { λ r. ⌜ r ≡ eqb (squareRootBits b) root ⌝ }
 {
-    if number::sqrt_bits(b) == root {
+    if float::sqrt_bits(b) == root {
         return root_by_value(b) == root;
     }
     false

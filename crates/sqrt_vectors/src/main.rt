@@ -103,7 +103,7 @@ fn main() {
         let stored = sqrt_pairs::pattern_line(b"its stored root:            ", t.root);
         let by_bits = sqrt_pairs::pattern_line(
             b"its root by sqrt_bits:      ",
-            number::sqrt_bits(b),
+            float::sqrt_bits(b),
         );
         let by_value = sqrt_pairs::pattern_line(
             b"its root by sqrt:           ",

@@ -10,11 +10,10 @@ use lib.IntN.{ℤ, pos, natAbs, _+ℤ_, _-ℤ_, -ℤ-+ℤ-cancel}
 use lib.Ieee.{Float, binary64, ofBits, add, fits}
 use lib.Ieee.Fits.{add-fits}
 use lib.Ieee.Scale.{finite}
-use Rattle.number.specs.Exact.{exact, count}
+use Rattle.float.specs.Exact.{exact, count}
 use Rattle.rounding.specs.Number.{Number}
 use Rattle.rounding.specs.Error.{RoundedSum}
-use Rattle.rounding.proofs.Integers.{dist, above, below, difference-self, difference-add, difference-less, difference-abs}
-use Rattle.rounding.proofs.Laws.{add-error, exact-size}
+use Rattle.rounding.proofs.Laws.{dist, above, below, difference-self, difference-add, difference-less, difference-abs, add-error, exact-size}
 
 -- ---- |x + y| ≤ |x| + |y|, and two more
 triangle : (a b c d : ℕ) → dist (a + c) (b + d) ≤ dist a b + dist c d

@@ -2,8 +2,7 @@
 -- nothing.
 use Prim.Native.Nat.{ℕ, zero, suc, _+_, _-_, _*_, _/_, _%_, _^_, _≤_}
 use mathlib.Core.Path.{_≡_}
-use mathlib.Core.Bool.{Bool, true, false, cond}
-use mathlib.Core.List.{List, []}
+use mathlib.Core.List.{List}
 use native.Mathlib.Nat.{le-trans, mul-le-mul-right}
 use lib.Dec.{T, ltb, eqb}
 use lib.IntN.{natAbs, _-ℤ_}
@@ -11,14 +10,13 @@ use lib.ListN.{length, getD}
 use lib.Ieee.{Float, nan, binary64, fits}
 use lib.Ieee.Bits.{ofBits-fits}
 use lib.Ieee.Fits.{nan-fits}
-use Rattle.checks.specs.declared.Refusal.the-variants.{Length}
-use Rattle.number.specs.Exact.{exact}
+use Rattle.float.specs.Exact.{exact}
 use Rattle.words.specs.Word.{valueAt, wordAt}
 use Rattle.sgal3.specs.declared.Element.{Element}
-use Rattle.sgal3_composition.specs.declared.Answer.the-variants.{Done, Refused}
+use Rattle.sgal3_composition.specs.declared.Answer.the-variants.{Done}
 use Rattle.handset.specs.Blocks.{valuesAt, chainBlocks, chain}
 use Rattle.time_sum.specs.RunningSum.{blocks, exactSum, magnitudeSum}
-use Rattle.time_sum.proofs.Times.{never}
+use Rattle.time_sum.proofs.Times.{passed}
 use Rattle.time_sum.proofs.TimeSum.{Values, values-blocks, chained, one-less}
 
 values : (n : ℕ) (s : List ℕ) (at : ℕ) → Values (valuesAt n s at)
@@ -32,13 +30,7 @@ values (suc n) s at = go (values n s (at + 8))
 
 whole : (most : ℕ) (s : List ℕ) (c : Element) → chain most s ≡ Done c → chainBlocks (length s / 88) s ≡ Done c
 unfolding chain
-whole most s c = go (ltb most (length s)) (eqb (length s % 88) 0)
-  where
-    go : (p q : Bool) → cond p (Refused (Length most (length s))) (cond q (chainBlocks (length s / 88) s) (Refused (Length (length s - length s % 88) (length s)))) ≡ Done c
-        → chainBlocks (length s / 88) s ≡ Done c
-    go true q h = never h
-    go false true h = h
-    go false false h = never h
+whole most s c = passed (ltb most (length s)) (eqb (length s % 88) 0) _ _ _
 
 -- the blocks of a byte chain, as values
 abbrev pub valueBlocks : List ℕ → List (List Float)

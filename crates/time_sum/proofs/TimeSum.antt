@@ -2,7 +2,6 @@
 -- steps' times, for every n. Assumes nothing.
 use Prim.Native.Nat.{ℕ, zero, suc, _+_, _-_, _*_, _/_, _%_, _^_, _≤_}
 use mathlib.Core.Path.{_≡_, refl, sym, ap, _∙_}
-use mathlib.Core.Bool.{Bool, true, false, cond}
 use mathlib.Core.List.{List, [], _∷_}
 use native.Mathlib.Nat.{le-trans, mul-le-mul-right, add-zero, zero-add, add-assoc, add-suc, suc-add}
 use native.Mathlib.Omega.{arith}
@@ -12,8 +11,7 @@ use lib.ListN.{length, getD, take, drop}
 use lib.Ieee.{Float, nan, binary64, add, fits}
 use lib.Ieee.Fits.{nan-fits}
 use Rattle.checks.specs.Checks.{tolerance}
-use Rattle.checks.specs.declared.Refusal.the-variants.{Length}
-use Rattle.number.specs.Exact.{exact, count}
+use Rattle.float.specs.Exact.{exact, count}
 use Rattle.rounding.proofs.Laws.{add-operands}
 use Rattle.law.specs.Galilean as Law
 use Rattle.sgal3.specs.Elements as Elements
@@ -23,7 +21,7 @@ use Rattle.sgal3_composition.specs.declared.Answer.{Answer}
 use Rattle.sgal3_composition.specs.declared.Answer.the-variants.{Done, Refused}
 use Rattle.time_sum.specs.RunningSum.{RunningSum, start, timeOf, entered, after, Binary64, Within, blocks, exactSum, magnitudeSum}
 use Rattle.time_sum.proofs.Bound.{Summed, starts, adds}
-use Rattle.time_sum.proofs.Times.{never, composed, checked, own-time}
+use Rattle.time_sum.proofs.Times.{never, passed, composed, checked, own-time}
 
 -- ---- one composed step: the held element's time is t, the step's block is s
 takes : {n : ℕ} {S : ℤ} {M : ℕ} (held : Answer) (s : List Float) (a c : Element) → held ≡ Done a
@@ -139,13 +137,7 @@ values-blocks (suc n) s f = (values-take 11 s f, values-blocks n (drop 11 s) (va
 -- ---- a chain that is not refused has whole blocks
 whole : (s : List Float) (c : Element) → Calls.chain s ≡ Done c → Calls.chainBlocks (length s / 11) s ≡ Done c
 unfolding Calls.chain
-whole s c = go (ltb 45056 (length s)) (eqb (length s % 11) 0)
-  where
-    go : (p q : Bool) → cond p (Refused (Length 45056 (length s))) (cond q (Calls.chainBlocks (length s / 11) s) (Refused (Length (length s - length s % 11) (length s)))) ≡ Done c
-        → Calls.chainBlocks (length s / 11) s ≡ Done c
-    go true q h = never h
-    go false true h = h
-    go false false h = never h
+whole s c = passed (ltb 45056 (length s)) (eqb (length s % 11) 0) _ _ _
 
 -- the same promise of every chain that is not refused: n is the number of its blocks
 pub chain-time-sum-sharp : (s : List Float) → ((i : ℕ) → T (fits binary64 (getD s i nan))) → (c : Element) → Calls.chain s ≡ Done c

@@ -1,18 +1,18 @@
 -- An accepted compose: its time is the rounded sum of the two times, and finite. Assumes nothing.
-use Prim.Native.Nat.{ℕ, zero, suc, _<_}
+use Prim.Native.Nat.{ℕ, _<_}
 use mathlib.Core.Path.{_≡_, refl, sym, ap, _∙_, subst}
 use mathlib.Core.Bool.{Bool, true, false, cond}
-use mathlib.Core.List.{List, [], _∷_}
+use mathlib.Core.List.{List}
 use native.Mathlib.Omega.{arith}
 use lib.Dec.{T, lit<}
-use lib.ListN.{length, getD}
-use lib.Ieee.{Float, nan, binary64, add}
-use lib.Ieee.Fits.{and-l, and-r}
+use lib.Ieee.{Float, binary64, add}
 use lib.Ieee.Scale.{finite}
 use Rattle.checks.specs.Checks.{tolerance, allFinite, checkParamBlock}
 use Rattle.checks.specs.declared.Check.{Check}
 use Rattle.checks.specs.declared.Check.the-variants.{Passed, Refused as Check·Refused}
+use Rattle.checks.specs.declared.Refusal.{Refusal}
 use Rattle.checks.specs.declared.Refusal.the-variants.{Overflow}
+use Rattle.checks.proofs.Finite.{finite-at}
 use Rattle.law.specs.Galilean as Law
 use Rattle.sgal3.specs.Elements as Elements
 use Rattle.sgal3_composition.specs.Calls as Calls
@@ -27,29 +27,26 @@ never {A} {r} {e} p = let z : _≡_ {A = ℕ} 0 1 = cc in absurd (apart z)
     apart : _≡_ {A = ℕ} 0 1 → ⊥
     apart z = omega arith
 
+-- an answer behind two tests that refuse
+pub passed : (p q : Bool) (r s : Refusal) (answer : Answer) {e : Element} → cond p (Refused r) (cond q answer (Refused s)) ≡ Done e → answer ≡ Done e
+passed true q r s answer h = never h
+passed false true r s answer h = h
+passed false false r s answer h = never h
+
 same : {a b : Element} → Done a ≡ Done b → a ≡ b
 same p = cc
-
-all-finite-at : (s : List Float) (i : ℕ) → T (allFinite s) → i < length s → T (finite (getD s i nan))
-unfolding allFinite
-all-finite-at [] i h l = absurd (none i l)
-  where
-    none : (i : ℕ) → i < 0 → ⊥
-    none i l = omega arith
-all-finite-at (x ∷ xs) zero h l = and-l (finite x) (allFinite xs) h
-all-finite-at (x ∷ xs) (suc i) h l = all-finite-at xs i (and-r (finite x) (allFinite xs) h) (omega arith)
 
 -- ---- an answer that is not refused
 record Finished (e c : Element) : Type 0 where
   is : e ≡ c
-  finite : T (allFinite (Elements.coeffs e))
+  finite : allFinite (Elements.coeffs e) ≡ true
 
 finished : (e c : Element) → Calls.elementAnswer e ≡ Done c → Finished e c
 unfolding Calls.elementAnswer
 finished e c = go (allFinite (Elements.coeffs e)) refl
   where
     go : (b : Bool) → allFinite (Elements.coeffs e) ≡ b → cond b (Done e) (Refused Overflow) ≡ Done c → Finished e c
-    go true p h = record { is = same h; finite = subst T (sym p) tt }
+    go true p h = record { is = same h; finite = p }
     go false p h = never h
 
 -- ---- what was composed
@@ -77,8 +74,8 @@ composed (Done a) (Done b) c h =
     sum-of : (a b : Element) → Elements.compose a b .time ≡ add binary64 (a .time) (b .time)
     sum-of a b = unfold Elements.compose Law.compose Law.composeAt in refl
 
-    last : (e : Element) → T (allFinite (Elements.coeffs e)) → T (finite (e .time))
-    last e h = unfold Elements.coeffs in all-finite-at (Elements.coeffs e) 10 h (lit< tt)
+    last : (e : Element) → allFinite (Elements.coeffs e) ≡ true → T (finite (e .time))
+    last e h = unfold Elements.coeffs in subst T (sym (finite-at (Elements.coeffs e) h 10 (lit< tt))) tt
 composed (Done a) (Refused s) c h = never h
 composed (Refused r) (Done b) c h = never h
 composed (Refused r) (Refused s) c h = never h

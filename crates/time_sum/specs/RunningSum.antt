@@ -5,7 +5,7 @@ use lib.Dec.{T}
 use lib.IntN.{ℤ, pos, natAbs, _+ℤ_, _-ℤ_}
 use lib.ListN.{getD, take, drop}
 use lib.Ieee.{Float, nan, binary64, fits}
-use Rattle.number.specs.Exact.{exact, count}
+use Rattle.float.specs.Exact.{exact, count}
 use Rattle.sgal3.specs.Elements.{identity, coeffs}
 use Rattle.sgal3_composition.specs.Calls as Calls
 use Rattle.sgal3.specs.declared.Element.{Element}

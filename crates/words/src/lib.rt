@@ -72,7 +72,7 @@ pub fn is_finite_at(s: &[u8], at: usize) -> bool
     requires { ⌜ at + 8 ≤ length (now s) ⌝ }
     ensures { λ r. ⌜ r ≡ finite (valueAt (now (s .entry)) at) ⌝ }
 {
-    number::is_finite_bits(word(s, at))
+    float::is_finite_bits(word(s, at))
 }
 
 // The number at s[at..at + 8], which is finite: no test for a NaN.
@@ -105,4 +105,13 @@ pub fn put_value(out: &mut [u8], at: usize, x: f64)
     ensures { λ _. ⌜ now (out .exit) ≡ sets (now (out .entry)) at (bytesOf (toBits binary64 x)) ⌝ }
 {
     put_word(out, at, to_bits(x));
+}
+
+// Stores a finite number at out[at..at + 8]: no test for a NaN.
+pub fn put_finite_value(out: &mut [u8], at: usize, x: f64)
+    requires { ⌜ at + 8 ≤ length (now out) ⌝ }
+    requires { ⌜ finite x ≡ true ⌝ }
+    ensures { λ _. ⌜ now (out .exit) ≡ sets (now (out .entry)) at (bytesOf (toBits binary64 x)) ⌝ }
+{
+    put_word(out, at, f64::to_bits(x));
 }

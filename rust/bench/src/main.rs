@@ -5,23 +5,11 @@
 mod calls;
 mod plain;
 
+use handset::entries::{sgal3_chain, sgal3_compose, sgal3_inverse};
 use handset::{Element, CHAIN_MOST, ELEMENT_BYTES};
-use plain::{Shared, Source};
+use plain::{Plain, Source};
 use std::hint::black_box;
 use std::time::Instant;
-
-extern "C" {
-    fn sgal3_compose(
-        left: *const u8,
-        left_len: usize,
-        right: *const u8,
-        right_len: usize,
-        out: *mut u8,
-        out_len: usize,
-    ) -> u32;
-    fn sgal3_inverse(block: *const u8, block_len: usize, out: *mut u8, out_len: usize) -> u32;
-    fn sgal3_chain(blocks: *const u8, blocks_len: usize, out: *mut u8, out_len: usize) -> u32;
-}
 
 type OfTwo = unsafe extern "C" fn(*const u8, usize, *const u8, usize, *mut u8, usize) -> u32;
 type OfOne = unsafe extern "C" fn(*const u8, usize, *mut u8, usize) -> u32;
@@ -47,9 +35,9 @@ const CANDIDATES: [Entries; 3] = [
         chain: plain::chain::<Source>,
     },
     Entries {
-        compose: plain::compose::<Shared>,
-        inverse: plain::inverse::<Shared>,
-        chain: plain::chain::<Shared>,
+        compose: plain::compose::<Plain>,
+        inverse: plain::inverse::<Plain>,
+        chain: plain::chain::<Plain>,
     },
 ];
 
@@ -275,13 +263,13 @@ fn main() {
     ];
     let mut compared = 0;
     for (name, steps) in &classes {
-        let [ours, source, shared] = CANDIDATES.map(|entries| answers(&entries, steps));
+        let [ours, source, plain] = CANDIDATES.map(|entries| answers(&entries, steps));
         assert!(
             ours.iter().all(|(number, _)| *number == 0),
             "{name}: refused"
         );
         assert!(ours == source, "{name}: source differs");
-        assert!(ours == shared, "{name}: shared differs");
+        assert!(ours == plain, "{name}: plain differs");
         compared += ours.len();
     }
     println!("{compared} answers of each are the same, bit for bit.\n");
@@ -298,7 +286,7 @@ type Class = (&'static str, Vec<Block>);
 /// The table of the entries.
 fn entry_table(classes: &[Class]) {
     println!(
-        "| quaternions | call | library, ns | source, ns | shared, ns | library / source | library / shared |"
+        "| quaternions | call | library, ns | source, ns | plain, ns | library / source | library / plain |"
     );
     println!("|---|---|---:|---:|---:|---:|---:|");
     for (name, steps) in classes {
@@ -307,11 +295,11 @@ fn entry_table(classes: &[Class]) {
             ("compose", compose_round),
             ("inverse", inverse_round),
         ] {
-            let [ours, source, shared] = times(round, steps);
+            let [ours, source, plain] = times(round, steps);
             println!(
-                "| {name} | {call} | {ours:.1} | {source:.1} | {shared:.1} | {:.2} | {:.2} |",
+                "| {name} | {call} | {ours:.1} | {source:.1} | {plain:.1} | {:.2} | {:.2} |",
                 ours / source,
-                ours / shared
+                ours / plain
             );
         }
     }
@@ -320,15 +308,15 @@ fn entry_table(classes: &[Class]) {
 /// The table of chains of more and more blocks.
 fn chain_table(classes: &[Class]) {
     println!(
-        "| quaternions | blocks | library, ns a block | shared, ns a block | library / shared |"
+        "| quaternions | blocks | library, ns a block | plain, ns a block | library / plain |"
     );
     println!("|---|---:|---:|---:|---:|");
     for (name, steps) in classes {
         for blocks in [1, 16, 256, CHAIN_MOST] {
-            let [ours, _, shared] = times(chain_round, &steps[..blocks]);
+            let [ours, _, plain] = times(chain_round, &steps[..blocks]);
             println!(
-                "| {name} | {blocks} | {ours:.1} | {shared:.1} | {:.2} |",
-                ours / shared
+                "| {name} | {blocks} | {ours:.1} | {plain:.1} | {:.2} |",
+                ours / plain
             );
         }
     }

@@ -173,7 +173,7 @@ pub trait Way {
 pub struct Source;
 
 /// Plain Rust: a quaternion is normalised as often as in the source, and all calls of one compose share the result.
-pub struct Shared;
+pub struct Plain;
 
 impl Way for Source {
     fn compose(a: Motion, b: Motion) -> Motion {
@@ -195,7 +195,7 @@ fn motion(a: &SGal3) -> Motion {
     Motion::of(values.expect("an element has eleven values"))
 }
 
-impl Way for Shared {
+impl Way for Plain {
     fn compose(a: Motion, b: Motion) -> Motion {
         let turn = a.rotation.normalize().normalize();
         Motion {

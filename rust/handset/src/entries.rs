@@ -1,8 +1,12 @@
-//! The C entries of the static library, over slices.
+//! The C entries of the static library: as handset.h declares them, and over byte slices of any lengths.
+//!
+//! A call answers 0, or the number of a refusal, and then the output is as it was. Elements are little-endian, as
+//! [`Element::to_bytes`](crate::Element::to_bytes) gives them.
 #![allow(unsafe_code)]
 
 extern "C" {
-    fn sgal3_compose(
+    /// Compose. The pointers are not null and as long as they say, and `out` overlaps no input; so for all three.
+    pub fn sgal3_compose(
         left: *const u8,
         left_len: usize,
         right: *const u8,
@@ -10,10 +14,13 @@ extern "C" {
         out: *mut u8,
         out_len: usize,
     ) -> u32;
-    fn sgal3_inverse(block: *const u8, block_len: usize, out: *mut u8, out_len: usize) -> u32;
-    fn sgal3_chain(blocks: *const u8, blocks_len: usize, out: *mut u8, out_len: usize) -> u32;
+    /// Inverse.
+    pub fn sgal3_inverse(block: *const u8, block_len: usize, out: *mut u8, out_len: usize) -> u32;
+    /// The chain.
+    pub fn sgal3_chain(blocks: *const u8, blocks_len: usize, out: *mut u8, out_len: usize) -> u32;
 }
 
+/// The step `right` taken after `left`, stored in `out`.
 pub fn compose(left: &[u8], right: &[u8], out: &mut [u8]) -> u32 {
     // SAFETY: each pointer and length are those of one slice: not null, also where it is empty, and valid for the call.
     // `out` is borrowed mutably, so it overlaps no input. The entry takes slices of every length.
@@ -29,12 +36,14 @@ pub fn compose(left: &[u8], right: &[u8], out: &mut [u8]) -> u32 {
     }
 }
 
+/// The step that undoes `block`, stored in `out`.
 pub fn inverse(block: &[u8], out: &mut [u8]) -> u32 {
     // SAFETY: each pointer and length are those of one slice: not null, also where it is empty, and valid for the call.
     // `out` is borrowed mutably, so it doesn't overlap `block`. The entry takes slices of every length.
     unsafe { sgal3_inverse(block.as_ptr(), block.len(), out.as_mut_ptr(), out.len()) }
 }
 
+/// The steps of `blocks`, laid end to end, composed from the identity and stored in `out`.
 pub fn chain(blocks: &[u8], out: &mut [u8]) -> u32 {
     // SAFETY: each pointer and length are those of one slice: not null, also where it is empty, and valid for the call.
     // `out` is borrowed mutably, so it doesn't overlap `blocks`. The entry takes slices of every length.

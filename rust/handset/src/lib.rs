@@ -35,7 +35,7 @@
 #![deny(missing_docs, unsafe_code, unsafe_op_in_unsafe_fn)]
 
 mod element;
-mod entries;
+pub mod entries;
 mod refusal;
 
 pub use element::Element;

@@ -13,17 +13,16 @@ slice-aggregate-write-all c = in-page _ _ _ _ _ _ (c .before .before .put .given
 pub main-spec : {M : Type 1} → statement M
 main-spec =
     tie.close
-    (tie.spec
-    (λ c κs. search needs)
+    (tie.spec _
     (λ c. search needs)
     (λ c. search needs)
     (λ c. search needs)
-    (λ c κs. search needs)
+    _
     (λ c. search needs)
     array-share-prefix-page
     slice-aggregate-write-all
-    (λ c κs. search needs)
+    _
     (λ c. search needs)
-    (λ c κs. search needs)
+    _
     (λ c. search needs)
     (λ c. search needs))

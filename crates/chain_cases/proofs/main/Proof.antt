@@ -24,43 +24,40 @@ main-spec =
     (tie.spec
     Inv-loop
     μ-loop
-    (λ c κs. search needs)
+    _
     (λ c. search needs)
-    (λ c κs. search needs)
+    _
     (λ c. search needs)
-    (λ c κs. search needs)
-    (λ c κs. search needs)
+    _ _
     (λ c. search needs)
-    (λ c κs. search needs)
-    (λ c. search needs)
-    (λ c. search needs)
-    (λ c. search needs)
-    (λ c. search needs)
-    (λ c. search needs)
-    (λ c κs. search needs)
-    (λ c. search needs)
-    (λ c. search needs)
-    (λ c κs. search needs)
+    _
     (λ c. search needs)
     (λ c. search needs)
     (λ c. search needs)
     (λ c. search needs)
     (λ c. search needs)
-    (λ c κs. search needs)
+    _
     (λ c. search needs)
-    (λ c κs. search needs)
-    (λ c κs. search needs)
+    (λ c. search needs)
+    _
+    (λ c. search needs)
+    (λ c. search needs)
+    (λ c. search needs)
+    (λ c. search needs)
+    (λ c. search needs)
+    _
+    (λ c. search needs)
+    _ _
     (λ c. search needs)
     array-share-prefix-page
     slice-aggregate-write-all-3
-    (λ c κs. search needs)
+    _
     (λ c. search needs)
-    (λ c κs. search needs)
+    _
     (λ c. search needs)
     (λ c. search needs)
     (λ c. search needs)
-    (λ c κs. search needs)
-    (λ c κs. search needs)
+    _ _
     (λ c. search needs)
     (λ c. search needs)
     (λ c. search needs)

@@ -31,9 +31,9 @@ read-once-spec =
     (λ c. search needs)
     (λ c. search needs)
     (λ c. search needs)
-    (λ c κs. search needs)
+    _
     (λ c. search needs)
     returns
-    (λ c κs. search needs)
+    _
     (λ c. search needs)
     returns-2)

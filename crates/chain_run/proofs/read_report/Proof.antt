@@ -20,6 +20,4 @@ unfolding Reported
 returns-2 c = (report-first-requires (c .before) (c .before .before .before .before .before .before .before .before .before .κs), c .report-first .ensures)
 
 pub read-report-spec : {M : Type 1} → statement M
-read-report-spec =
-    tie.close
-    (tie.spec (λ c κs. search needs) (λ c. search needs) (λ c. search needs) returns report-first-requires returns-2)
+read-report-spec = tie.close (tie.spec _ (λ c. search needs) (λ c. search needs) returns report-first-requires returns-2)

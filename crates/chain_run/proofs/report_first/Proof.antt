@@ -9,4 +9,4 @@ slice-aggregate-report : tie.Need-slice-aggregate-report
 slice-aggregate-report c = sym (length-take-le _ _ (search needs))
 
 pub report-first-spec : {M : Type 1} → statement M
-report-first-spec = tie.close (tie.spec slice-aggregate-report (λ c κs. search needs) (λ c. search needs))
+report-first-spec = tie.close (tie.spec slice-aggregate-report _ (λ c. search needs))

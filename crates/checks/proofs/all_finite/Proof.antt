@@ -44,6 +44,4 @@ returns-2 c =
     sym (l .inv .1 ∙ ends _ (l .i) (omega arith))
 
 pub all-finite-spec : {M : Type 1} → statement M
-all-finite-spec =
-    tie.close
-    (tie.spec Inv-loop μ-loop loop-holds (λ c. search needs) read (λ c κs. search needs) returns add-i loop-less loop-again returns-2)
+all-finite-spec = tie.close (tie.spec Inv-loop μ-loop loop-holds (λ c. search needs) read _ returns add-i loop-less loop-again returns-2)

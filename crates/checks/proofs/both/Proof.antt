@@ -28,14 +28,4 @@ returns-3 c =
     )
 
 pub both-spec : {M : Type 1} → statement M
-both-spec =
-    tie.close
-    (tie.spec
-    (λ c. search needs)
-    (λ c. search needs)
-    returns
-    (λ c. search needs)
-    (λ c. search needs)
-    returns-2
-    (λ c κs. search needs)
-    returns-3)
+both-spec = tie.close (tie.spec (λ c. search needs) (λ c. search needs) returns (λ c. search needs) (λ c. search needs) returns-2 _ returns-3)

@@ -1,5 +1,4 @@
 -- `checks::check_norm` meets its contract. Assumes nothing.
-use borrow.Author.Needs.{needs}
 use borrow.Author.Tests.{not-true, not-false}
 use Rattle.checks.specs.Checks.{checkNorm}
 use Rattle.checks.proofs.check_norm.Statement.{statement}
@@ -28,4 +27,4 @@ returns-3 c = rw (
 )
 
 pub check-norm-spec : {M : Type 1} → statement M
-check-norm-spec = tie.close (tie.spec (λ c κs. search needs) returns (λ c κs. search needs) returns-2 returns-3)
+check-norm-spec = tie.close (tie.spec _ returns _ returns-2 returns-3)

@@ -41,8 +41,7 @@ returns-2 c =
 pub check-param-block-spec : {M : Type 1} → statement M
 check-param-block-spec =
     tie.close
-    (tie.spec
-    (λ c κs. search needs)
+    (tie.spec _
     (λ c. search needs)
     (λ c. search needs)
     mul-check-unit-quaternion

@@ -1,12 +1,17 @@
 -- `checks::check_unit_quaternion` meets its contract. Assumes nothing.
-use borrow.Author.Needs.{needs}
+use mathlib.Core.Path.{sym}
 use Rattle.checks.specs.Checks.{checkUnitQuaternion, normOf}
+use borrow.Author.Needs.{needs}
 use Rattle.checks.proofs.check_unit_quaternion.Statement.{statement}
 use Rattle.checks.proofs.check_unit_quaternion.Tie as tie
 
 returns : tie.Need-returns
 unfolding checkUnitQuaternion normOf
-returns c = rw (c .check-norm .ensures, c .before .sqrt .ensures)
+returns c = sym (c .before .passes-without-root .ensures (c .if1 .taken))
+
+returns-2 : tie.Need-returns-2
+unfolding checkUnitQuaternion normOf
+returns-2 c = rw (c .check-norm .ensures, c .before .sqrt .ensures)
 
 pub check-unit-quaternion-spec : {M : Type 1} → statement M
 check-unit-quaternion-spec =
@@ -20,6 +25,7 @@ check-unit-quaternion-spec =
     (λ c. search needs)
     (λ c. search needs)
     (λ c. search needs)
-    (λ c κs. search needs)
-    (λ c κs. search needs)
-    returns)
+    _
+    returns
+    _ _
+    returns-2)

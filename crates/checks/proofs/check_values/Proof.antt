@@ -1,5 +1,4 @@
 -- `checks::check_values` meets its contract. Assumes nothing.
-use borrow.Author.Needs.{needs}
 use borrow.Author.Tests.{eq-eqb, ne-eqb, not-true, not-false}
 use Rattle.checks.specs.Checks.{checkValues}
 use Rattle.checks.proofs.check_values.Statement.{statement}
@@ -18,4 +17,4 @@ unfolding checkValues
 returns-3 c = rw (eq-eqb _ _ (c .before .before .if1 .left), ← c .before .all-finite .ensures, not-false (c .before .all-finite .result) (c .if2 .left))
 
 pub check-values-spec : {M : Type 1} → statement M
-check-values-spec = tie.close (tie.spec returns (λ c κs. search needs) returns-2 returns-3)
+check-values-spec = tie.close (tie.spec returns _ returns-2 returns-3)

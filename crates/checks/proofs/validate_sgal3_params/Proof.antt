@@ -9,5 +9,4 @@ unfolding validateSgal3Params
 returns c = rw (c .check-param-block .ensures, c .before .tolerance .ensures)
 
 pub validate-sgal3-params-spec : {M : Type 1} → statement M
-validate-sgal3-params-spec =
-    tie.close (tie.spec (λ c κs. search needs) (λ c κs. search needs) returns)
+validate-sgal3-params-spec = tie.close (tie.spec _ (λ c κs. search needs) returns)

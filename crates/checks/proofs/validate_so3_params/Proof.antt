@@ -9,5 +9,4 @@ unfolding validateSo3Params
 returns c = rw (c .check-param-block .ensures, c .before .tolerance .ensures)
 
 pub validate-so3-params-spec : {M : Type 1} → statement M
-validate-so3-params-spec =
-    tie.close (tie.spec (λ c κs. search needs) (λ c κs. search needs) returns)
+validate-so3-params-spec = tie.close (tie.spec _ (λ c κs. search needs) returns)

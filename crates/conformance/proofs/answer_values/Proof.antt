@@ -12,18 +12,9 @@ slice-aggregate-answer c =
     let start = c .before .before in
     omega (arith, length-take (start .args .begin) (now (start .args .values)))
 
-returns : tie.Need-returns
-unfolding Values.Answered
-returns c = c .answer .ensures
-
 pub answer-values-spec : {M : Type 1} → statement M
+unfolding Values.Answered
 answer-values-spec =
     tie.close
-    (tie.spec
-    slice-aggregate-answer
-    (λ c. search needs)
-    (λ c. search needs)
-    (λ c. search needs)
-    (λ c. search needs)
-    (λ c κs. search needs)
-    returns)
+    (tie.spec slice-aggregate-answer (λ c. search needs) (λ c. search needs) (λ c. search needs) (λ c. search needs) _
+    (λ c. c .answer .ensures))

@@ -11,12 +11,5 @@ slice-aggregate-read-full c = sym (length-take-le _ _ (search needs))
 pub read-body-spec : {M : Type 1} → statement M
 read-body-spec =
     tie.close
-    (tie.spec
-    (λ c. search needs)
-    slice-aggregate-read-full
-    (λ c κs. search needs)
-    (λ c. search needs)
-    (λ c. search needs)
-    (λ c. search needs)
-    (λ c. search needs)
-    (λ c. search needs))
+    (tie.spec (λ c. search needs) slice-aggregate-read-full _ (λ c. search needs)
+    (λ c. search needs) (λ c. search needs) (λ c. search needs) (λ c. search needs))

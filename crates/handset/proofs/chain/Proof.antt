@@ -18,4 +18,4 @@ unfolding Blocks.chainBlocks Calls.chainBlocks
 returns-3 c = rw (c .compose-blocks .ensures, c .before .identity .ensures) (sym (whole-blocks _ _ (c .before .before .before .if1 .left) (c .before .before .if2 .left)))
 
 pub chain-spec : {M : Type 1} → statement M
-chain-spec = tie.close (tie.spec returns (λ c. search needs) returns-2 (λ c κs. search needs) (λ c κs. search needs) returns-3)
+chain-spec = tie.close (tie.spec returns (λ c. search needs) returns-2 _ _ returns-3)

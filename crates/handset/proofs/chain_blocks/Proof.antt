@@ -25,7 +25,7 @@ chain-blocks-spec =
     (λ c κs. search needs)
     (λ c. search needs)
     element-requires
-    (λ c κs. search needs)
+    _
     (λ c. search needs)
     (λ c κs. search needs)
     returns

@@ -35,6 +35,6 @@ check-values-spec =
     (λ c. search needs)
     quaternion-requires
     (λ c. search needs)
-    (λ c κs. search needs)
+    _
     (λ c κs. search needs)
     returns-2)

@@ -8,9 +8,10 @@ use lib.ListN.{length}
 use Rattle.checks.specs.Checks.{allFinite}
 use Rattle.checks.proofs.Passed.{passed-finite}
 use Rattle.sgal3_composition.specs.Calls.{chainFrom}
-use Rattle.sgal3_composition.specs.declared.Answer.the-variants.{Done, Refused}
+use Rattle.sgal3_composition.specs.declared.Answer.the-variants.{Done}
 use Rattle.handset.specs.Blocks as Blocks
-use Rattle.handset.proofs.ByteBlocks.{goes-on, stops, finished, overflowed, end}
+use Rattle.sgal3_composition.proofs.Answers.{finished, overflowed}
+use Rattle.handset.proofs.ByteBlocks.{goes-on, stops, end}
 use Rattle.handset.proofs.compose_blocks.Statement.{statement}
 use Rattle.handset.proofs.compose_blocks.Tie as tie
 
@@ -86,10 +87,9 @@ compose-blocks-spec =
     earliest-requires
     returns
     element-requires
-    (λ c κs. search needs)
-    (λ c κs. search needs)
+    _ _
     (λ c. search needs)
-    (λ c κs. search needs)
+    _
     add-earliest-2
     (λ c. omega arith)
     earliest-requires-2

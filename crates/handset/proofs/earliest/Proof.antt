@@ -52,7 +52,7 @@ earliest-spec =
     check-values-requires
     (λ c. search needs)
     (λ c. search needs)
-    (λ c κs. search needs)
+    _
     (λ c. omega arith)
     (λ c. omega arith)
     (λ c. omega arith)

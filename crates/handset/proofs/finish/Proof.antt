@@ -2,8 +2,13 @@
 use mathlib.Core.Path.{refl}
 use borrow.Author.Needs.{needs}
 use Rattle.handset.specs.Entries as Entries
+use Rattle.handset.specs.Steps as Steps
 use Rattle.handset.proofs.finish.Statement.{statement}
 use Rattle.handset.proofs.finish.Tie as tie
+
+put-element-requires : tie.Need-put-element-requires
+unfolding Steps.Finite
+put-element-requires c κs = (search needs, rw (c .before .before .answer .given .1) at (c .before .before .before .before .before .pre .1))
 
 returns : tie.Need-returns
 unfolding Entries.number Entries.written
@@ -14,13 +19,4 @@ unfolding Entries.number Entries.written
 returns-2 c = rw (c .before .before .answer2 .given .1) (c .number .ensures, refl)
 
 pub finish-spec : {M : Type 1} → statement M
-finish-spec =
-    tie.close
-    (tie.spec
-    (λ c. search needs)
-    (λ c κs. search needs)
-    (λ c. search needs)
-    (λ c κs. search needs)
-    (λ c. search needs)
-    returns
-    returns-2)
+finish-spec = tie.close (tie.spec (λ c. search needs) put-element-requires (λ c. search needs) _ (λ c. search needs) returns returns-2)

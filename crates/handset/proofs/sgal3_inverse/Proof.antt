@@ -4,6 +4,7 @@ use borrow.Author.Needs.{needs}
 use native.Mathlib.Omega.{arith}
 use Rattle.checks.proofs.Passed.{passed-finite}
 use Rattle.handset.specs.Entries as Entries
+use Rattle.handset.proofs.FiniteValues.{answer-finite}
 use Rattle.handset.proofs.Outputs.{refused-output, refused-block, refusal-output, taken-output, inverse-passed, inverse-refused}
 use Rattle.handset.proofs.sgal3_inverse.Statement.{statement}
 use Rattle.handset.proofs.sgal3_inverse.Tie as tie
@@ -18,6 +19,9 @@ returns-2 c = refused-block _ _ (c .before .if1 .left) (c .if2 .taken)
 
 element-requires : tie.Need-element-requires
 element-requires c κs = (omega arith, passed-finite _ 11 3 _ (sym (c .before .before .check-values .ensures) ∙ c .enum-told .given .1))
+
+finish-requires : tie.Need-finish-requires
+finish-requires c κs = (search needs, rw (c .before .element-answer .ensures) (answer-finite _))
 
 returns-3 : tie.Need-returns-3
 unfolding Entries.inverse
@@ -43,11 +47,10 @@ sgal3-inverse-spec =
     (λ c κs. search needs)
     (λ c. search needs)
     element-requires
-    (λ c κs. search needs)
-    (λ c κs. search needs)
-    (λ c κs. search needs)
+    _ _
+    finish-requires
     (λ c. search needs)
-    (λ c κs. search needs)
+    _
     (λ c. search needs)
     returns-3
     returns-4)

@@ -3,11 +3,15 @@ use mathlib.Core.Path.{ap, _∙_}
 use borrow.Author.Needs.{needs}
 use lib.ListN.{length}
 use Rattle.handset.proofs.ByteBlocks.{whole, whole-chain}
+use Rattle.handset.proofs.FiniteValues.{after-finite}
 use Rattle.handset.proofs.store_chain.Statement.{statement}
 use Rattle.handset.proofs.store_chain.Tie as tie
 
 chain-blocks-requires : tie.Need-chain-blocks-requires
 chain-blocks-requires c κs = ap length (whole (c .before .before .before .before .before .args .first .now)) ∙ c .before .before .before .before .before .pre .0
+
+finish-requires : tie.Need-finish-requires
+finish-requires c κs = (search needs, rw (c .before .chain-blocks .ensures) (after-finite _ _ _))
 
 returns : tie.Need-returns
 returns c =
@@ -25,6 +29,6 @@ store-chain-spec =
     (λ c. search needs)
     (λ c. search needs)
     chain-blocks-requires
-    (λ c κs. search needs)
+    finish-requires
     (λ c. search needs)
     returns)

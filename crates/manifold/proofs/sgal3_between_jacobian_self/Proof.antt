@@ -1,5 +1,4 @@
 -- `manifold::sgal3_between_jacobian_self` meets its contract. Assumes nothing.
-use borrow.Author.Needs.{needs}
 use Rattle.manifold.specs.Galilean as Galilean
 use Rattle.manifold.proofs.sgal3_between_jacobian_self.Statement.{statement}
 use Rattle.manifold.proofs.sgal3_between_jacobian_self.Tie as tie
@@ -15,6 +14,4 @@ returns c =
     )
 
 pub sgal3-between-jacobian-self-spec : {M : Type 1} → statement M
-sgal3-between-jacobian-self-spec =
-    tie.close
-    (tie.spec (λ c κs. search needs) (λ c κs. search needs) (λ c κs. search needs) (λ c κs. search needs) returns)
+sgal3-between-jacobian-self-spec = tie.close (tie.spec _ _ _ _ returns)

@@ -1,5 +1,4 @@
 -- `manifold::sgal3_left_minus` meets its contract. Assumes nothing.
-use borrow.Author.Needs.{needs}
 use Rattle.manifold.specs.Galilean as Galilean
 use Rattle.manifold.proofs.sgal3_left_minus.Statement.{statement}
 use Rattle.manifold.proofs.sgal3_left_minus.Tie as tie
@@ -14,4 +13,4 @@ returns c =
     )
 
 pub sgal3-left-minus-spec : {M : Type 1} → statement M
-sgal3-left-minus-spec = tie.close (tie.spec (λ c κs. search needs) (λ c κs. search needs) (λ c κs. search needs) returns)
+sgal3-left-minus-spec = tie.close (tie.spec _ _ _ returns)

@@ -1,5 +1,4 @@
 -- `manifold::sgal3_left_plus` meets its contract. Assumes nothing.
-use borrow.Author.Needs.{needs}
 use Rattle.manifold.specs.Galilean as Galilean
 use Rattle.manifold.proofs.sgal3_left_plus.Statement.{statement}
 use Rattle.manifold.proofs.sgal3_left_plus.Tie as tie
@@ -13,4 +12,4 @@ returns c =
     )
 
 pub sgal3-left-plus-spec : {M : Type 1} → statement M
-sgal3-left-plus-spec = tie.close (tie.spec (λ c κs. search needs) (λ c κs. search needs) returns)
+sgal3-left-plus-spec = tie.close (tie.spec _ _ returns)

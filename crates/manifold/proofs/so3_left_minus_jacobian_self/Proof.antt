@@ -1,5 +1,4 @@
 -- `manifold::so3_left_minus_jacobian_self` meets its contract. Assumes nothing.
-use borrow.Author.Needs.{needs}
 use Rattle.manifold.specs.Rotations as Rotations
 use Rattle.manifold.proofs.so3_left_minus_jacobian_self.Statement.{statement}
 use Rattle.manifold.proofs.so3_left_minus_jacobian_self.Tie as tie
@@ -15,11 +14,4 @@ returns c =
     )
 
 pub so3-left-minus-jacobian-self-spec : {M : Type 1} → statement M
-so3-left-minus-jacobian-self-spec =
-    tie.close
-    (tie.spec
-    (λ c κs. search needs)
-    (λ c κs. search needs)
-    (λ c κs. search needs)
-    (λ c κs. search needs)
-    returns)
+so3-left-minus-jacobian-self-spec = tie.close (tie.spec _ _ _ _ returns)

@@ -1,5 +1,4 @@
 -- `manifold::so3_right_plus_jacobian_self` meets its contract. Assumes nothing.
-use borrow.Author.Needs.{needs}
 use Rattle.manifold.specs.Rotations as Rotations
 use Rattle.manifold.proofs.so3_right_plus_jacobian_self.Statement.{statement}
 use Rattle.manifold.proofs.so3_right_plus_jacobian_self.Tie as tie
@@ -13,5 +12,4 @@ returns c =
     )
 
 pub so3-right-plus-jacobian-self-spec : {M : Type 1} → statement M
-so3-right-plus-jacobian-self-spec =
-    tie.close (tie.spec (λ c κs. search needs) (λ c κs. search needs) returns)
+so3-right-plus-jacobian-self-spec = tie.close (tie.spec _ _ returns)

@@ -4,34 +4,14 @@ use Rattle.manifold_blocks.specs.Calls as Calls
 use Rattle.manifold_blocks.proofs.so3_right_plus_jacobian_self.Statement.{statement}
 use Rattle.manifold_blocks.proofs.so3_right_plus_jacobian_self.Tie as tie
 
-returns : tie.Need-returns
-unfolding Calls.rightPlusJacobianSelf
-returns c =
-    rw (
-      ← c .before .before .before .before .before .check-plus .ensures,
-      c .before .before .before .a .given .1,
-      ← c .before .so3-right-plus-jacobian-self .ensures,
-      ← c .matrix-answer .ensures,
-    )
-
-returns-2 : tie.Need-returns-2
-unfolding Calls.rightPlusJacobianSelf
-returns-2 c =
-    rw (
-      ← c .before .before .before .before .check-plus .ensures,
-      c .before .before .r .given .1,
-      ← c .refused-matrix .ensures,
-    )
-
 pub so3-right-plus-jacobian-self-spec : {M : Type 1} → statement M
+unfolding Calls.rightPlusJacobianSelf
 so3-right-plus-jacobian-self-spec =
     tie.close
-    (tie.spec
-    (λ c κs. search needs)
+    (tie.spec _
     (λ c. search needs)
-    (λ c κs. search needs)
-    (λ c κs. search needs)
+    _ _
     (λ c. search needs)
-    (λ c κs. search needs)
-    returns
-    returns-2)
+    _
+    (λ c. rw (← c .before .before .before .before .before .check-plus .ensures, c .before .before .before .a .given .1, ← c .before .so3-right-plus-jacobian-self .ensures, ← c .matrix-answer .ensures))
+    (λ c. rw (← c .before .before .before .before .check-plus .ensures, c .before .before .r .given .1, ← c .refused-matrix .ensures)))

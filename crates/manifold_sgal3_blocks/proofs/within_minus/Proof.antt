@@ -4,22 +4,12 @@ use Rattle.manifold_sgal3_blocks.specs.Turns as Turns
 use Rattle.manifold_sgal3_blocks.proofs.within_minus.Statement.{statement}
 use Rattle.manifold_sgal3_blocks.proofs.within_minus.Tie as tie
 
-returns : tie.Need-returns
-unfolding Turns.withinMinus
-returns c =
-    rw (
-      ← c .before .before .within-log .ensures,
-      c .enum-told .given .1,
-    )
-
-returns-2 : tie.Need-returns-2
-unfolding Turns.withinMinus
-returns-2 c =
-    rw (
-      ← c .before .before .before .within-log .ensures,
-      c .before .r .given .1,
-    )
-
 pub within-minus-spec : {M : Type 1} → statement M
+unfolding Turns.withinMinus
 within-minus-spec =
-    tie.close (tie.spec (λ c κs. search needs) (λ c. search needs) (λ c. search needs) returns returns-2)
+    tie.close
+    (tie.spec _
+    (λ c. search needs)
+    (λ c. search needs)
+    (λ c. rw (← c .before .before .within-log .ensures, c .enum-told .given .1))
+    (λ c. rw (← c .before .before .before .within-log .ensures, c .before .r .given .1)))

@@ -4,34 +4,13 @@ use Rattle.manifold_turns.specs.Turns as Turns
 use Rattle.manifold_turns.proofs.check_left_minus_jacobian.Statement.{statement}
 use Rattle.manifold_turns.proofs.check_left_minus_jacobian.Tie as tie
 
-returns : tie.Need-returns
-unfolding Turns.checkLeftMinusJacobian
-returns c =
-    rw (
-      ← c .before .before .before .before .before .before .check-elements .ensures,
-      c .before .before .before .before .a .given .1,
-      ← c .before .before .inverse .ensures,
-      ← c .before .compose .ensures,
-      ← c .within-minus-jacobian .ensures,
-    )
-
-returns-2 : tie.Need-returns-2
-unfolding Turns.checkLeftMinusJacobian
-returns-2 c =
-    rw (
-      ← c .before .before .before .check-elements .ensures,
-      c .before .r .given .1,
-    )
-
 pub check-left-minus-jacobian-spec : {M : Type 1} → statement M
+unfolding Turns.checkLeftMinusJacobian
 check-left-minus-jacobian-spec =
     tie.close
-    (tie.spec
-    (λ c κs. search needs)
+    (tie.spec _
     (λ c. search needs)
-    (λ c κs. search needs)
-    (λ c κs. search needs)
-    (λ c κs. search needs)
+    _ _ _
     (λ c. search needs)
-    returns
-    returns-2)
+    (λ c. rw (← c .before .before .before .before .before .before .check-elements .ensures, c .before .before .before .before .a .given .1, ← c .before .before .inverse .ensures, ← c .before .compose .ensures, ← c .within-minus-jacobian .ensures))
+    (λ c. rw (← c .before .before .before .check-elements .ensures, c .before .r .given .1)))

@@ -1,27 +1,12 @@
 -- `manifold_turns::within_minus` meets its contract. Assumes nothing.
-use borrow.Author.Needs.{needs}
 use Rattle.manifold_turns.specs.Turns as Turns
 use Rattle.manifold_turns.proofs.within_minus.Statement.{statement}
 use Rattle.manifold_turns.proofs.within_minus.Tie as tie
 
-returns : tie.Need-returns
-unfolding Turns.withinMinus
-returns c =
-    rw (
-      ← c .before .before .sin-angle-squared .ensures,
-      ← c .before .leaves-series .ensures,
-      c .if1 .taken,
-    )
-
-returns-2 : tie.Need-returns-2
-unfolding Turns.withinMinus
-returns-2 c =
-    rw (
-      ← c .before .before .sin-angle-squared .ensures,
-      ← c .before .leaves-series .ensures,
-      c .if1 .left,
-    )
-
 pub within-minus-spec : {M : Type 1} → statement M
+unfolding Turns.withinMinus
 within-minus-spec =
-    tie.close (tie.spec (λ c κs. search needs) (λ c κs. search needs) returns returns-2)
+    tie.close
+    (tie.spec _ _
+    (λ c. rw (← c .before .before .sin-angle-squared .ensures, ← c .before .leaves-series .ensures, c .if1 .taken))
+    (λ c. rw (← c .before .before .sin-angle-squared .ensures, ← c .before .leaves-series .ensures, c .if1 .left)))

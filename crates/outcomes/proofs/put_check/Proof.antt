@@ -7,7 +7,7 @@ use Rattle.outcomes.proofs.put_check.Tie as tie
 
 returns : tie.Need-returns
 unfolding Outcomes.ofCheck
-returns c = (header-count _ _, c .put-header .ensures)
+returns c = record { returned = header-count _ _; stored = c .put-header .ensures; fits = search needs }
 
 pub put-check-spec : {M : Type 1} → statement M
 put-check-spec = tie.close (tie.spec (λ c κs. search needs) returns)

@@ -4,34 +4,19 @@ use Rattle.outcomes.specs.Outcomes as Outcomes
 use Rattle.outcomes.proofs.put_header.Statement.{statement}
 use Rattle.outcomes.proofs.put_header.Tie as tie
 
-returns : tie.Need-returns
+pub put-header-spec : {M : Type 1} → statement M
 unfolding Outcomes.header
-returns c = rw (c .before .before .before .before .enum-told .given .1) (c .before .before .put-four .ensures)
-
-returns-2 : tie.Need-returns-2
-unfolding Outcomes.header
-returns-2 c =
-    rw (
+put-header-spec =
+    tie.close
+    (tie.spec
+    (λ c. search needs) (λ c κs. search needs)
+    (λ c. search needs) _ (λ c. search needs) _ _ (λ c κs. search needs)
+    (λ c. search needs)
+    (λ c. rw (c .before .before .before .before .enum-told .given .1) (c .before .before .put-four .ensures))
+    (λ c. search needs)
+    (λ c. rw (
       c .before .before .before .before .before .before .before .before .c .given .1,
       ← c .before .before .before .before .before .number .ensures,
       ← c .before .before .before .before .first-figure .ensures,
       ← c .before .before .before .second-figure .ensures,
-    )
-    (c .before .before .put-four2 .ensures)
-
-pub put-header-spec : {M : Type 1} → statement M
-put-header-spec =
-    tie.close
-    (tie.spec
-    (λ c. search needs)
-    (λ c κs. search needs)
-    (λ c. search needs)
-    (λ c κs. search needs)
-    (λ c. search needs)
-    (λ c κs. search needs)
-    (λ c κs. search needs)
-    (λ c κs. search needs)
-    (λ c. search needs)
-    returns
-    (λ c. search needs)
-    returns-2)
+    ) (c .before .before .put-four2 .ensures)))

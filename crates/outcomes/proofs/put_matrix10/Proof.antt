@@ -7,10 +7,11 @@ use Rattle.outcomes.proofs.put_matrix10.Tie as tie
 
 returns : tie.Need-returns
 unfolding Outcomes.ofMatrix10
-returns c = (
-  matrix10-count _ (c .put-rows .ensures .0),
-  rw (c .put-rows .ensures .1, c .before .before .put-header .ensures) (after-header _ _ _ _),
-)
+returns c = record {
+  returned = matrix10-count _ (c .put-rows .ensures .0);
+  stored = rw (c .put-rows .ensures .1, c .before .before .put-header .ensures) (after-header _ _ _ _);
+  fits = search needs;
+}
 
 pub put-matrix10-spec : {M : Type 1} → statement M
 put-matrix10-spec = tie.close (tie.spec (λ c κs. search needs) (λ c κs. search needs) returns)

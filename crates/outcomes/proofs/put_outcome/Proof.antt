@@ -10,10 +10,12 @@ returns : tie.Need-returns
 unfolding Outcomes.outcome
 returns c =
     let at-header = c .before .before in
-    let start = at-header .before .before .before in (
-      outcome-count (start .args .c) (now (start .args .values)),
-      rw (c .put-values .ensures, at-header .put-header .ensures) (after-header _ _ _ _),
-    )
+    let start = at-header .before .before .before in
+    record {
+      returned = outcome-count (start .args .c) (now (start .args .values));
+      stored = rw (c .put-values .ensures, at-header .put-header .ensures) (after-header _ _ _ _);
+      fits = search needs;
+    }
 
 pub put-outcome-spec : {M : Type 1} → statement M
 put-outcome-spec =

@@ -7,7 +7,11 @@ use Rattle.outcomes.proofs.put_word.Tie as tie
 
 returns : tie.Need-returns
 unfolding Outcomes.ofWord
-returns c = (word-count _, rw (c .put-word .ensures, c .before .before .put-header .ensures) (after-header _ _ _ _))
+returns c = record {
+  returned = word-count _;
+  stored = rw (c .put-word .ensures, c .before .before .put-header .ensures) (after-header _ _ _ _);
+  fits = search needs;
+}
 
 pub put-word-spec : {M : Type 1} → statement M
 put-word-spec = tie.close (tie.spec (λ c κs. search needs) (λ c κs. search needs) returns)

@@ -31,10 +31,10 @@ put-answer-spec =
     tie.close
     (tie.spec
     (λ c. search needs)
-    (λ c κs. search needs)
+    _
     (λ c κs. search needs)
     (λ c. search needs)
-    (λ c κs. search needs)
+    _
     (λ c. search needs)
     put-refusal-requires
     (λ c. search needs)

@@ -13,4 +13,4 @@ returns c =
     (written (now (c .before .before .before .before .args .out)) _ (c .before .chain .result) _ (search needs) (c .put-answer .ensures .0) (c .put-answer .ensures .1))
 
 pub report-spec : {M : Type 1} → statement M
-report-spec = tie.close (tie.spec (λ c κs. search needs) (λ c κs. search needs) returns)
+report-spec = tie.close (tie.spec _ (λ c κs. search needs) returns)

@@ -19,7 +19,7 @@ put-line-spec =
     (tie.spec
     (λ c κs. search needs)
     (λ c. search needs)
-    (λ c κs. search needs)
+    _
     (λ c κs. search needs)
     (λ c. search needs)
     (λ c κs. search needs)

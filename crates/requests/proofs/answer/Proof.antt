@@ -1,85 +1,42 @@
 -- `requests::answer` meets its contract. Assumes nothing.
-use borrow.Author.Tests.{eq-eqb, le-ltb, lt-ltb, ne-eqb}
-use borrow.Author.Needs.{needs}
+use borrow.Author.Tests.{lt-ltb}
 use Rattle.requests.specs.Requests as Requests
+use Rattle.requests.proofs.Answers.{past}
 use Rattle.requests.proofs.answer.Statement.{statement}
 use Rattle.requests.proofs.answer.Tie as tie
 
-returns : tie.Need-returns
-unfolding Requests.answer
-returns c = rw (lt-ltb _ _ (c .before .before .if1 .taken)) (c .check-call .ensures)
-
-returns-2 : tie.Need-returns-2
-unfolding Requests.answer
-returns-2 c = rw (
-  le-ltb _ _ (c .before .before .before .if1 .left),
-  eq-eqb _ _ (c .before .before .if2 .taken),
-) (c .quaternion-call .ensures)
-
-returns-3 : tie.Need-returns-3
-unfolding Requests.answer
-returns-3 c = rw (
-  le-ltb _ _ (c .before .before .before .before .if1 .left),
-  ne-eqb _ _ (c .before .before .before .if2 .left),
-  lt-ltb _ _ (c .before .before .if3 .taken),
-) (c .so3-call .ensures)
-
-returns-4 : tie.Need-returns-4
-unfolding Requests.answer
-returns-4 c = rw (
-  le-ltb _ _ (c .before .before .before .before .before .if1 .left),
-  ne-eqb _ _ (c .before .before .before .before .if2 .left),
-  le-ltb _ _ (c .before .before .before .if3 .left),
-  lt-ltb _ _ (c .before .before .if4 .taken),
-) (c .so3-manifold-call .ensures)
-
-returns-5 : tie.Need-returns-5
-unfolding Requests.answer
-returns-5 c = rw (
-  le-ltb _ _ (c .before .before .before .before .before .before .if1 .left),
-  ne-eqb _ _ (c .before .before .before .before .before .if2 .left),
-  le-ltb _ _ (c .before .before .before .before .if3 .left),
-  le-ltb _ _ (c .before .before .before .if4 .left),
-  lt-ltb _ _ (c .before .before .if5 .taken),
-) (c .sgal3-call .ensures)
-
-returns-6 : tie.Need-returns-6
-unfolding Requests.answer
-returns-6 c = rw (
-  le-ltb _ _ (c .before .before .before .before .before .before .before .if1 .left),
-  ne-eqb _ _ (c .before .before .before .before .before .before .if2 .left),
-  le-ltb _ _ (c .before .before .before .before .before .if3 .left),
-  le-ltb _ _ (c .before .before .before .before .if4 .left),
-  le-ltb _ _ (c .before .before .before .if5 .left),
-  lt-ltb _ _ (c .before .before .if6 .taken),
-) (c .sgal3-matrix-call .ensures)
-
-returns-7 : tie.Need-returns-7
-unfolding Requests.answer
-returns-7 c = rw (
-  le-ltb _ _ (c .before .before .before .before .before .before .before .if1 .left),
-  ne-eqb _ _ (c .before .before .before .before .before .before .if2 .left),
-  le-ltb _ _ (c .before .before .before .before .before .if3 .left),
-  le-ltb _ _ (c .before .before .before .before .if4 .left),
-  le-ltb _ _ (c .before .before .before .if5 .left),
-  le-ltb _ _ (c .before .before .if6 .left),
-) (c .sgal3-manifold-call .ensures)
-
 pub answer-spec : {M : Type 1} → statement M
+unfolding Requests.answer
 answer-spec =
     tie.close
     (tie.spec
-    (λ c κs. search needs)
-    returns
-    (λ c κs. search needs)
-    returns-2
-    (λ c κs. search needs)
-    returns-3
-    (λ c κs. search needs)
-    returns-4
-    (λ c κs. search needs)
-    returns-5
-    (λ c κs. search needs)
-    returns-6
-    (λ c κs. search needs)
-    returns-7)
+    _
+    (λ c. simp (lt-ltb _ _ (c .before .before .if1 .taken)) (c .check-call .ensures))
+    _
+    (λ c. simp (past _ _ (c .before .before .before .if1 .left), lt-ltb _ _ (c .before .before .if2 .taken)) (c .quaternion-call .ensures))
+    _
+    (λ c. simp (past _ _ (c .before .before .before .if2 .left), lt-ltb _ _ (c .before .before .if3 .taken)) (c .rotation-call .ensures))
+    _
+    (λ c. simp (past _ _ (c .before .before .before .if3 .left), lt-ltb _ _ (c .before .before .if4 .taken)) (c .rotation-log-call .ensures))
+    _
+    (λ c. simp (past _ _ (c .before .before .before .if4 .left), lt-ltb _ _ (c .before .before .if5 .taken)) (c .rotation-exp-call .ensures))
+    _
+    (λ c. simp (past _ _ (c .before .before .before .if5 .left), lt-ltb _ _ (c .before .before .if6 .taken)) (c .rotation-tangent-call .ensures))
+    _
+    (λ c. simp (past _ _ (c .before .before .before .if6 .left), lt-ltb _ _ (c .before .before .if7 .taken)) (c .rotation-plus-call .ensures))
+    _
+    (λ c. simp (past _ _ (c .before .before .before .if7 .left), lt-ltb _ _ (c .before .before .if8 .taken)) (c .rotation-minus-call .ensures))
+    _
+    (λ c. simp (past _ _ (c .before .before .before .if8 .left), lt-ltb _ _ (c .before .before .if9 .taken)) (c .rotation-between-call .ensures))
+    _
+    (λ c. simp (past _ _ (c .before .before .before .if9 .left), lt-ltb _ _ (c .before .before .if10 .taken)) (c .element-call .ensures))
+    _
+    (λ c. simp (past _ _ (c .before .before .before .if10 .left), lt-ltb _ _ (c .before .before .if11 .taken)) (c .log-call .ensures))
+    _
+    (λ c. simp (past _ _ (c .before .before .before .if11 .left), lt-ltb _ _ (c .before .before .if12 .taken)) (c .tangent-call .ensures))
+    _
+    (λ c. simp (past _ _ (c .before .before .before .if12 .left), lt-ltb _ _ (c .before .before .if13 .taken)) (c .matrix-call .ensures))
+    _
+    (λ c. simp (past _ _ (c .before .before .before .if13 .left), lt-ltb _ _ (c .before .before .if14 .taken)) (c .plus-call .ensures))
+    _
+    (λ c. simp (past _ _ (c .before .before .if14 .left)) (c .between-call .ensures)))

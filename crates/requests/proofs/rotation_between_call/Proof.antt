@@ -1,54 +1,22 @@
 -- `requests::rotation_between_call` meets its contract. Assumes nothing.
-use mathlib.Core.Path.{refl}
-use borrow.Author.Tests.{eq-eqb, ne-eqb}
-use borrow.Author.Needs.{needs}
+use borrow.Author.Tests.{ne-eqb}
 use Rattle.requests.specs.Requests as Requests
+use Rattle.requests.proofs.Answers.{none}
 use Rattle.requests.proofs.rotation_between_call.Statement.{statement}
 use Rattle.requests.proofs.rotation_between_call.Tie as tie
 
-returns : tie.Need-returns
-unfolding Requests.rotationBetweenCall
-returns c = rw (
-  eq-eqb _ _ (c .before .before .before .if1 .taken),
-  ← c .before .so3-between .ensures,
-) (c .put-rotation .ensures)
-
-returns-2 : tie.Need-returns-2
-unfolding Requests.rotationBetweenCall
-returns-2 c = rw (
-  ne-eqb _ _ (c .before .before .before .before .if1 .left),
-  eq-eqb _ _ (c .before .before .before .if2 .taken),
-  ← c .before .so3-between-jacobian-self .ensures,
-) (c .put-matrix3 .ensures)
-
-returns-3 : tie.Need-returns-3
-unfolding Requests.rotationBetweenCall
-returns-3 c = rw (
-  ne-eqb _ _ (c .before .before .before .before .before .if1 .left),
-  ne-eqb _ _ (c .before .before .before .before .if2 .left),
-  eq-eqb _ _ (c .before .before .before .if3 .taken),
-  ← c .before .so3-between-jacobian-other .ensures,
-) (c .put-matrix32 .ensures)
-
-returns-4 : tie.Need-returns-4
-unfolding Requests.rotationBetweenCall
-returns-4 c = rw (
-  ne-eqb _ _ (c .before .before .if1 .left),
-  ne-eqb _ _ (c .before .if2 .left),
-  ne-eqb _ _ (c .if3 .left),
-) ((refl, refl))
-
 pub rotation-between-call-spec : {M : Type 1} → statement M
+unfolding Requests.rotationBetweenCall
 rotation-between-call-spec =
     tie.close
-    (tie.spec
-    (λ c κs. search needs)
-    (λ c κs. search needs)
-    returns
-    (λ c κs. search needs)
-    (λ c κs. search needs)
-    returns-2
-    (λ c κs. search needs)
-    (λ c κs. search needs)
-    returns-3
-    returns-4)
+    (tie.spec _ _ _ _ _ _ _ _ _ _ _ _ _ _ _ _ _ _
+    (λ c. rw (c .before .before .before .match .keys1, ← c .before .so3-between .ensures) (c .put-rotation .ensures))
+    (λ c. rw (c .before .before .before .match .keys2, ← c .before .so3-between-jacobian-self .ensures) (c .put-matrix3 .ensures))
+    (λ c. rw (c .before .before .before .match .keys3, ← c .before .so3-between-jacobian-other .ensures) (c .put-matrix32 .ensures))
+    (λ c. rw (c .before .before .before .match .keys4, ← c .before .so3-plus .ensures) (c .put-rotation2 .ensures))
+    (λ c. rw (c .before .before .before .match .keys5, ← c .before .so3-plus-jacobian-self .ensures) (c .put-matrix33 .ensures))
+    (λ c. rw (c .before .before .before .match .keys6, ← c .before .so3-plus-jacobian-tangent .ensures) (c .put-matrix34 .ensures))
+    (λ c. rw (c .before .before .before .match .keys7, ← c .before .so3-minus .ensures) (c .put-rotation-tangent .ensures))
+    (λ c. rw (c .before .before .before .match .keys8, ← c .before .so3-minus-jacobian-self .ensures) (c .put-matrix35 .ensures))
+    (λ c. rw (c .before .before .before .match .keys9, ← c .before .so3-minus-jacobian-other .ensures) (c .put-matrix36 .ensures))
+    (λ c. search (ne-eqb, none)))

@@ -1,5 +1,4 @@
 -- `sgal3::s_nu_coupling` meets its contract. Assumes nothing.
-use borrow.Author.Needs.{needs}
 use Rattle.sgal3.specs.Tangents as Tangents
 use Rattle.linear.specs.Matrices as Matrices
 use Rattle.linear.specs.Vectors as Vectors
@@ -22,16 +21,4 @@ returns c = rw (
 ) (unfold Tangents.sNuCoupling Matrices.hat Matrices.identity Matrices.scale Matrices.add Matrices.mul Vectors.normSquared Law·Series.sNuCoupling Law·Series.couplingBy in rw half-value)
 
 pub s-nu-coupling-spec : {M : Type 1} → statement M
-s-nu-coupling-spec =
-    tie.close
-    (tie.spec
-    (λ c κs. search needs)
-    (λ c κs. search needs)
-    (λ c κs. search needs)
-    (λ c κs. search needs)
-    (λ c κs. search needs)
-    (λ c κs. search needs)
-    (λ c κs. search needs)
-    (λ c κs. search needs)
-    (λ c κs. search needs)
-    returns)
+s-nu-coupling-spec = tie.close (tie.spec _ _ _ _ _ _ _ _ _ returns)

@@ -1,6 +1,5 @@
 -- `sgal3_algebra::axis` meets its contract. Assumes nothing.
 use borrow.Author.Tests.{eq-eqb, ne-eqb}
-use borrow.Author.Needs.{needs}
 use Rattle.sgal3_algebra.specs.Algebra as Algebra
 use Rattle.sgal3_algebra.proofs.axis.Statement.{statement}
 use Rattle.sgal3_algebra.proofs.axis.Tie as tie
@@ -43,5 +42,4 @@ returns-4 c =
     )
 
 pub axis-spec : {M : Type 1} → statement M
-axis-spec =
-    tie.close (tie.spec (λ c κs. search needs) returns returns-2 returns-3 (λ c κs. search needs) returns-4)
+axis-spec = tie.close (tie.spec _ returns returns-2 returns-3 _ returns-4)

@@ -1,6 +1,5 @@
 -- `sgal3_algebra::generator` meets its contract. Assumes nothing.
 use borrow.Author.Tests.{eq-eqb, le-ltb, lt-ltb, ne-eqb}
-use borrow.Author.Needs.{needs}
 use Rattle.sgal3_algebra.specs.Algebra as Algebra
 use Rattle.sgal3_algebra.proofs.generator.Statement.{statement}
 use Rattle.sgal3_algebra.proofs.generator.Tie as tie
@@ -53,21 +52,4 @@ returns-4 c =
     )
 
 pub generator-spec : {M : Type 1} → statement M
-generator-spec =
-    tie.close
-    (tie.spec
-    (λ c κs. search needs)
-    (λ c κs. search needs)
-    (λ c κs. search needs)
-    (λ c κs. search needs)
-    returns
-    (λ c κs. search needs)
-    (λ c κs. search needs)
-    (λ c κs. search needs)
-    returns-2
-    (λ c κs. search needs)
-    (λ c κs. search needs)
-    returns-3
-    (λ c κs. search needs)
-    (λ c κs. search needs)
-    returns-4)
+generator-spec = tie.close (tie.spec _ _ _ _ returns _ _ _ returns-2 _ _ returns-3 _ _ returns-4)

@@ -1,6 +1,5 @@
 -- `sgal3_algebra::hat` meets its contract. Assumes nothing.
 use mathlib.Core.Path.{refl}
-use borrow.Author.Needs.{needs}
 use Rattle.sgal3_algebra.specs.Algebra as Algebra
 use Rattle.linear.specs.Matrices as Linear
 use Rattle.law.specs.Galilean as Law
@@ -14,4 +13,4 @@ returns c = rw (
 ) (unfold Algebra.hat Algebra.lieAlgebra Linear.hat Law.hat in refl)
 
 pub hat-spec : {M : Type 1} → statement M
-hat-spec = tie.close (tie.spec (λ c κs. search needs) (λ c κs. search needs) returns)
+hat-spec = tie.close (tie.spec _ _ returns)

@@ -1,6 +1,5 @@
 -- `sgal3_algebra::lie_algebra` meets its contract. Assumes nothing.
 use mathlib.Core.Path.{refl}
-use borrow.Author.Needs.{needs}
 use Rattle.sgal3_algebra.specs.Algebra as Algebra
 use Rattle.law.specs.Galilean as Law
 use Rattle.law.specs.Rows as Rows

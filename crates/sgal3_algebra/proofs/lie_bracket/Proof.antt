@@ -1,6 +1,5 @@
 -- `sgal3_algebra::lie_bracket` meets its contract. Assumes nothing.
 use mathlib.Core.Path.{refl}
-use borrow.Author.Needs.{needs}
 use Rattle.sgal3_rows.specs.TenRows as TenRows
 use Rattle.sgal3_algebra.specs.Algebra as Algebra
 use Rattle.law.specs.Galilean as Law
@@ -14,4 +13,4 @@ returns c = rw (
 ) (unfold Algebra.lieBracket TenRows.apply Algebra.smallAdj Law.lieBracket in refl)
 
 pub lie-bracket-spec : {M : Type 1} → statement M
-lie-bracket-spec = tie.close (tie.spec (λ c κs. search needs) (λ c κs. search needs) returns)
+lie-bracket-spec = tie.close (tie.spec _ _ returns)

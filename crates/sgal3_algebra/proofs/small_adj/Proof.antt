@@ -1,6 +1,5 @@
 -- `sgal3_algebra::small_adj` meets its contract. Assumes nothing.
 use mathlib.Core.Path.{refl}
-use borrow.Author.Needs.{needs}
 use Rattle.sgal3_rows.specs.TenRows as TenRows
 use Rattle.sgal3_algebra.specs.Algebra as Algebra
 use Rattle.linear.specs.Matrices as Linear
@@ -19,13 +18,4 @@ returns c = rw (
 ) (unfold Algebra.smallAdj TenRows.byBlocks Linear.hat Linear.identity Linear.scale Law.smallAdj in refl)
 
 pub small-adj-spec : {M : Type 1} → statement M
-small-adj-spec =
-    tie.close
-    (tie.spec
-    (λ c κs. search needs)
-    (λ c κs. search needs)
-    (λ c κs. search needs)
-    (λ c κs. search needs)
-    (λ c κs. search needs)
-    (λ c κs. search needs)
-    returns)
+small-adj-spec = tie.close (tie.spec _ _ _ _ _ _ returns)

@@ -4,7 +4,7 @@ use mathlib.Core.Path.{_≡_, refl, sym, _∙_}
 use native.Mathlib.Omega.{arith}
 use borrow.Author.Needs.{needs}
 use borrow.Author.Tests.{not-true, not-false}
-use lib.ListN.{length, drop}
+use lib.ListN.{drop}
 use Rattle.sgal3_answers.specs.Matrices.{finiteRows}
 use Rattle.sgal3_answers.proofs.Finite.{passes, stops, ends}
 use Rattle.sgal3_answers.proofs.finite_rows.Statement.{statement}
@@ -52,7 +52,7 @@ finite-rows-spec =
     loop-holds
     (λ c. search needs)
     array-copy-out-row
-    (λ c κs. search needs)
+    _
     returns
     add-i
     loop-less

@@ -1,13 +1,12 @@
 -- `sgal3_answers::refused_matrix` meets its contract. Assumes nothing.
 use mathlib.Core.Path.{refl}
-use borrow.Author.Needs.{needs}
 use Rattle.sgal3_answers.specs.Matrices as Matrices
 use Rattle.sgal3_answers.proofs.refused_matrix.Statement.{statement}
 use Rattle.sgal3_answers.proofs.refused_matrix.Tie as tie
 
-returns : tie.Need-returns
-unfolding Matrices.refusedMatrix
-returns c = refl
-
 pub refused-matrix-spec : {M : Type 1} → statement M
-refused-matrix-spec = tie.close (tie.spec returns)
+unfolding Matrices.refusedMatrix
+refused-matrix-spec =
+    tie.close
+    (tie.spec
+    (λ c. refl))

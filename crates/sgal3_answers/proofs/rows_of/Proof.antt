@@ -28,23 +28,23 @@ rows-of-spec =
     tie.close
     (tie.spec
     (λ c. search needs)
-    (λ c κs. search needs)
+    _
     (λ c. search needs)
-    (λ c κs. search needs)
+    _
     (λ c. search needs)
-    (λ c κs. search needs)
+    _
     (λ c. search needs)
-    (λ c κs. search needs)
+    _
     (λ c. search needs)
-    (λ c κs. search needs)
+    _
     (λ c. search needs)
-    (λ c κs. search needs)
+    _
     (λ c. search needs)
-    (λ c κs. search needs)
+    _
     (λ c. search needs)
-    (λ c κs. search needs)
+    _
     (λ c. search needs)
-    (λ c κs. search needs)
+    _
     (λ c. search needs)
-    (λ c κs. search needs)
+    _
     returns)

@@ -4,32 +4,14 @@ use Rattle.sgal3_blocks.specs.Calls as Calls
 use Rattle.sgal3_blocks.proofs.coeffs.Statement.{statement}
 use Rattle.sgal3_blocks.proofs.coeffs.Tie as tie
 
-returns : tie.Need-returns
-unfolding Calls.coeffs
-returns c =
-    rw (
-      ← c .before .before .before .before .check-element .ensures,
-      c .before .before .a .given .1,
-      ← c .coeffs-answer .ensures,
-    )
-
-returns-2 : tie.Need-returns-2
-unfolding Calls.coeffs
-returns-2 c =
-    rw (
-      ← c .before .before .before .before .check-element .ensures,
-      c .before .before .r .given .1,
-      ← c .refused-coeffs .ensures,
-    )
-
 pub coeffs-spec : {M : Type 1} → statement M
+unfolding Calls.coeffs
 coeffs-spec =
     tie.close
-    (tie.spec
-    (λ c κs. search needs)
+    (tie.spec _
     (λ c. search needs)
-    (λ c κs. search needs)
+    _
     (λ c. search needs)
-    (λ c κs. search needs)
-    returns
-    returns-2)
+    _
+    (λ c. rw (← c .before .before .before .before .check-element .ensures, c .before .before .a .given .1, ← c .coeffs-answer .ensures))
+    (λ c. rw (← c .before .before .before .before .check-element .ensures, c .before .before .r .given .1, ← c .refused-coeffs .ensures)))

@@ -4,30 +4,13 @@ use Rattle.sgal3_blocks.specs.Calls as Calls
 use Rattle.sgal3_blocks.proofs.is_valid.Statement.{statement}
 use Rattle.sgal3_blocks.proofs.is_valid.Tie as tie
 
-returns : tie.Need-returns
-unfolding Calls.isValid
-returns c =
-    rw (
-      ← c .before .before .before .before .from-param-slice .ensures,
-      c .before .before .a .given .1,
-      ← c .is-valid .ensures,
-    )
-
-returns-2 : tie.Need-returns-2
-unfolding Calls.isValid
-returns-2 c =
-    rw (
-      ← c .before .before .before .from-param-slice .ensures,
-      c .before .r .given .1,
-    )
-
 pub is-valid-spec : {M : Type 1} → statement M
+unfolding Calls.isValid
 is-valid-spec =
     tie.close
-    (tie.spec
-    (λ c κs. search needs)
+    (tie.spec _
     (λ c. search needs)
-    (λ c κs. search needs)
+    _
     (λ c. search needs)
-    returns
-    returns-2)
+    (λ c. rw (← c .before .before .before .before .from-param-slice .ensures, c .before .before .a .given .1, ← c .is-valid .ensures))
+    (λ c. rw (← c .before .before .before .from-param-slice .ensures, c .before .r .given .1)))

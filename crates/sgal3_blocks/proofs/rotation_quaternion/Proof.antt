@@ -4,34 +4,13 @@ use Rattle.sgal3_blocks.specs.Calls as Calls
 use Rattle.sgal3_blocks.proofs.rotation_quaternion.Statement.{statement}
 use Rattle.sgal3_blocks.proofs.rotation_quaternion.Tie as tie
 
-returns : tie.Need-returns
-unfolding Calls.rotationQuaternion
-returns c =
-    rw (
-      ← c .before .before .before .before .before .before .check-element .ensures,
-      c .before .before .before .before .a .given .1,
-      ← c .before .before .rotation-quaternion .ensures,
-      ← c .before .new .ensures,
-      ← c .element-answer .ensures,
-    )
-
-returns-2 : tie.Need-returns-2
-unfolding Calls.rotationQuaternion
-returns-2 c =
-    rw (
-      ← c .before .before .before .check-element .ensures,
-      c .before .r .given .1,
-    )
-
 pub rotation-quaternion-spec : {M : Type 1} → statement M
+unfolding Calls.rotationQuaternion
 rotation-quaternion-spec =
     tie.close
-    (tie.spec
-    (λ c κs. search needs)
+    (tie.spec _
     (λ c. search needs)
-    (λ c κs. search needs)
-    (λ c κs. search needs)
-    (λ c κs. search needs)
+    _ _ _
     (λ c. search needs)
-    returns
-    returns-2)
+    (λ c. rw (← c .before .before .before .before .before .before .check-element .ensures, c .before .before .before .before .a .given .1, ← c .before .before .rotation-quaternion .ensures, ← c .before .new .ensures, ← c .element-answer .ensures))
+    (λ c. rw (← c .before .before .before .check-element .ensures, c .before .r .given .1)))

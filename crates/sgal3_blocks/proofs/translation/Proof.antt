@@ -4,30 +4,13 @@ use Rattle.sgal3_blocks.specs.Calls as Calls
 use Rattle.sgal3_blocks.proofs.translation.Statement.{statement}
 use Rattle.sgal3_blocks.proofs.translation.Tie as tie
 
-returns : tie.Need-returns
-unfolding Calls.translation
-returns c =
-    rw (
-      ← c .before .before .before .before .check-element .ensures,
-      c .before .before .a .given .1,
-      ← c .vector-answer .ensures,
-    )
-
-returns-2 : tie.Need-returns-2
-unfolding Calls.translation
-returns-2 c =
-    rw (
-      ← c .before .before .before .check-element .ensures,
-      c .before .r .given .1,
-    )
-
 pub translation-spec : {M : Type 1} → statement M
+unfolding Calls.translation
 translation-spec =
     tie.close
-    (tie.spec
-    (λ c κs. search needs)
+    (tie.spec _
     (λ c. search needs)
-    (λ c κs. search needs)
+    _
     (λ c. search needs)
-    returns
-    returns-2)
+    (λ c. rw (← c .before .before .before .before .check-element .ensures, c .before .before .a .given .1, ← c .vector-answer .ensures))
+    (λ c. rw (← c .before .before .before .check-element .ensures, c .before .r .given .1)))

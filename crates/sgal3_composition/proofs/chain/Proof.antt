@@ -29,4 +29,4 @@ returns-3 c =
     )
 
 pub chain-spec : {M : Type 1} → statement M
-chain-spec = tie.close (tie.spec returns (λ c. search needs) returns-2 (λ c κs. search needs) returns-3)
+chain-spec = tie.close (tie.spec returns (λ c. search needs) returns-2 _ returns-3)

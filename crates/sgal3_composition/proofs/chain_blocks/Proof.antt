@@ -2,7 +2,6 @@
 use Prim.Native.Nat.{_+_, _*_, _/_, _≤_}
 use mathlib.Core.Path.{_≡_, sym, _∙_}
 use native.Mathlib.Omega.{arith}
-use borrow.Author.Needs.{needs}
 use lib.ListN.{length, drop}
 use Rattle.sgal3_composition.specs.Calls as Calls
 use Rattle.sgal3_composition.proofs.Blocks.{next, end}
@@ -40,16 +39,14 @@ chain-blocks-spec =
     (tie.spec
     Inv-loop
     μ-loop
-    (λ c κs. search needs)
+    _
     loop-holds
     (λ c. omega arith)
     (λ c. omega arith)
     (λ c. omega arith)
     (λ c. omega arith)
     (λ c. omega arith)
-    (λ c κs. search needs)
-    (λ c κs. search needs)
-    (λ c κs. search needs)
+    _ _ _
     (λ c. omega arith)
     (λ c. omega arith)
     loop-again

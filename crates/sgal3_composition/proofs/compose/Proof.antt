@@ -1,5 +1,4 @@
 -- `sgal3_composition::compose` meets its contract. Assumes nothing.
-use borrow.Author.Needs.{needs}
 use Rattle.sgal3_composition.specs.Calls as Calls
 use Rattle.sgal3_composition.proofs.compose.Statement.{statement}
 use Rattle.sgal3_composition.proofs.compose.Tie as tie
@@ -15,12 +14,4 @@ returns c = rw (
 )
 
 pub compose-spec : {M : Type 1} → statement M
-compose-spec =
-    tie.close
-    (tie.spec
-    (λ c κs. search needs)
-    (λ c κs. search needs)
-    (λ c κs. search needs)
-    (λ c κs. search needs)
-    (λ c κs. search needs)
-    returns)
+compose-spec = tie.close (tie.spec _ _ _ _ _ returns)

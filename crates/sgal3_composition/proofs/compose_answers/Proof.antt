@@ -32,11 +32,10 @@ compose-answers-spec =
     (tie.spec
     (λ c. search needs)
     (λ c. search needs)
-    (λ c κs. search needs)
+    _
     returns
     (λ c. search needs)
     (λ c. search needs)
     returns-2
-    (λ c κs. search needs)
-    (λ c κs. search needs)
+    _ _
     returns-3)

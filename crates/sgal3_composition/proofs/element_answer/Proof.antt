@@ -25,6 +25,4 @@ returns-2 c =
     )
 
 pub element-answer-spec : {M : Type 1} → statement M
-element-answer-spec =
-    tie.close
-    (tie.spec (λ c κs. search needs) (λ c. search needs) (λ c κs. search needs) returns returns-2)
+element-answer-spec = tie.close (tie.spec _ (λ c. search needs) _ returns returns-2)

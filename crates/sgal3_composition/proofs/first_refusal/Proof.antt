@@ -37,5 +37,5 @@ first-refusal-spec =
     (λ c. search needs)
     (λ c. search needs)
     returns-2
-    (λ c κs. search needs)
+    _
     returns-3)

@@ -20,12 +20,4 @@ returns-2 c =
     )
 
 pub inverse-answer-spec : {M : Type 1} → statement M
-inverse-answer-spec =
-    tie.close
-    (tie.spec
-    (λ c. search needs)
-    (λ c. search needs)
-    returns
-    (λ c κs. search needs)
-    (λ c κs. search needs)
-    returns-2)
+inverse-answer-spec = tie.close (tie.spec (λ c. search needs) (λ c. search needs) returns _ _ returns-2)

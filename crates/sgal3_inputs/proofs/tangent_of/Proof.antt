@@ -5,11 +5,8 @@ use Rattle.sgal3.specs.Tangents as Galilean
 use Rattle.sgal3_inputs.proofs.tangent_of.Statement.{statement}
 use Rattle.sgal3_inputs.proofs.tangent_of.Tie as tie
 
-returns : tie.Need-returns
-unfolding Galilean.tangentOf
-returns c = refl
-
 pub tangent-of-spec : {M : Type 1} → statement M
+unfolding Galilean.tangentOf
 tangent-of-spec =
     tie.close
     (tie.spec
@@ -23,4 +20,4 @@ tangent-of-spec =
     (λ c. search needs)
     (λ c. search needs)
     (λ c. search needs)
-    returns)
+    (λ c. refl))

@@ -1,6 +1,5 @@
 -- `sgal3_matrices::act_jacobian_self` meets its contract. Assumes nothing.
 use mathlib.Core.Path.{refl}
-use borrow.Author.Needs.{needs}
 use Rattle.sgal3_matrices.specs.Matrices as Matrices
 use Rattle.sgal3.specs.Elements as Elements
 use Rattle.linear.specs.Matrices as Linear
@@ -21,13 +20,4 @@ returns c = rw (
 ) (unfold Matrices.actJacobianSelf Elements.rotationMatrix Linear.scale Linear.neg Linear.mul Linear.hat Vectors.scale Law.actJacobianSelf Law.actJacobianSelfAt Law.row10 Rows.byRow in refl)
 
 pub act-jacobian-self-spec : {M : Type 1} → statement M
-act-jacobian-self-spec =
-    tie.close
-    (tie.spec
-    (λ c κs. search needs)
-    (λ c κs. search needs)
-    (λ c κs. search needs)
-    (λ c κs. search needs)
-    (λ c κs. search needs)
-    (λ c κs. search needs)
-    returns)
+act-jacobian-self-spec = tie.close (tie.spec _ _ _ _ _ _ returns)

@@ -1,6 +1,5 @@
 -- `sgal3_matrices::adjoint` meets its contract. Assumes nothing.
 use mathlib.Core.Path.{refl}
-use borrow.Author.Needs.{needs}
 use Rattle.sgal3_rows.specs.TenRows as TenRows
 use Rattle.sgal3_matrices.specs.Matrices as Matrices
 use Rattle.sgal3.specs.Elements as Elements
@@ -24,16 +23,4 @@ returns c = rw (
 ) (unfold Matrices.adjoint TenRows.byBlocks Elements.rotationMatrix Linear.scale Linear.hat Linear.sub Linear.mul Law.adjoint Law.adjointAt Law.rotationMatrix Rotation.rotationMatrix in refl)
 
 pub adjoint-spec : {M : Type 1} → statement M
-adjoint-spec =
-    tie.close
-    (tie.spec
-    (λ c κs. search needs)
-    (λ c κs. search needs)
-    (λ c κs. search needs)
-    (λ c κs. search needs)
-    (λ c κs. search needs)
-    (λ c κs. search needs)
-    (λ c κs. search needs)
-    (λ c κs. search needs)
-    (λ c κs. search needs)
-    returns)
+adjoint-spec = tie.close (tie.spec _ _ _ _ _ _ _ _ _ returns)

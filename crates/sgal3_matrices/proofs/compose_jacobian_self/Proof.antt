@@ -1,6 +1,5 @@
 -- `sgal3_matrices::compose_jacobian_self` meets its contract. Assumes nothing.
 use mathlib.Core.Path.{refl}
-use borrow.Author.Needs.{needs}
 use Rattle.sgal3_matrices.specs.Matrices as Matrices
 use Rattle.sgal3.specs.Elements as Elements
 use Rattle.law.specs.Galilean as Law
@@ -14,4 +13,4 @@ returns c = rw (
 ) (unfold Matrices.composeJacobianSelf Matrices.adjoint Elements.inverse Law.composeJacobianSelf in refl)
 
 pub compose-jacobian-self-spec : {M : Type 1} → statement M
-compose-jacobian-self-spec = tie.close (tie.spec (λ c κs. search needs) (λ c κs. search needs) returns)
+compose-jacobian-self-spec = tie.close (tie.spec _ _ returns)

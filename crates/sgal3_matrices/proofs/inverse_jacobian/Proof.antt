@@ -1,6 +1,5 @@
 -- `sgal3_matrices::inverse_jacobian` meets its contract. Assumes nothing.
 use mathlib.Core.Path.{refl}
-use borrow.Author.Needs.{needs}
 use Rattle.sgal3_rows.specs.TenRows as TenRows
 use Rattle.sgal3_matrices.specs.Matrices as Matrices
 use Rattle.law.specs.Galilean as Law
@@ -14,4 +13,4 @@ returns c = rw (
 ) (unfold Matrices.inverseJacobian TenRows.neg Matrices.adjoint Law.inverseJacobian in refl)
 
 pub inverse-jacobian-spec : {M : Type 1} → statement M
-inverse-jacobian-spec = tie.close (tie.spec (λ c κs. search needs) (λ c κs. search needs) returns)
+inverse-jacobian-spec = tie.close (tie.spec _ _ returns)

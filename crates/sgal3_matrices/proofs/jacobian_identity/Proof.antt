@@ -1,6 +1,5 @@
 -- `sgal3_matrices::jacobian_identity` meets its contract. Assumes nothing.
 use mathlib.Core.Path.{refl}
-use borrow.Author.Needs.{needs}
 use Rattle.sgal3_rows.specs.TenRows as TenRows
 use Rattle.sgal3_matrices.specs.Matrices as Matrices
 use Rattle.linear.specs.Matrices as Linear
@@ -17,5 +16,4 @@ returns c = rw (
 ) (unfold Matrices.jacobianIdentity TenRows.byBlocks Linear.identity Vectors.zero Law.jacobianIdentity in refl)
 
 pub jacobian-identity-spec : {M : Type 1} → statement M
-jacobian-identity-spec =
-    tie.close (tie.spec (λ c κs. search needs) (λ c κs. search needs) (λ c κs. search needs) returns)
+jacobian-identity-spec = tie.close (tie.spec _ _ _ returns)

@@ -30,23 +30,23 @@ apply-spec =
     tie.close
     (tie.spec
     (λ c. search needs)
-    (λ c κs. search needs)
+    _
     (λ c. search needs)
-    (λ c κs. search needs)
+    _
     (λ c. search needs)
-    (λ c κs. search needs)
+    _
     (λ c. search needs)
-    (λ c κs. search needs)
+    _
     (λ c. search needs)
-    (λ c κs. search needs)
+    _
     (λ c. search needs)
-    (λ c κs. search needs)
+    _
     (λ c. search needs)
-    (λ c κs. search needs)
+    _
     (λ c. search needs)
-    (λ c κs. search needs)
+    _
     (λ c. search needs)
-    (λ c κs. search needs)
+    _
     (λ c. search needs)
-    (λ c κs. search needs)
+    _
     returns)

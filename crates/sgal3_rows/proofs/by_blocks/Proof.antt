@@ -1,6 +1,5 @@
 -- `sgal3_rows::by_blocks` meets its contract. Assumes nothing.
 use mathlib.Core.Path.{refl}
-use borrow.Author.Needs.{needs}
 use Rattle.sgal3_rows.specs.TenRows as TenRows
 use Rattle.linear.specs.Vectors as Vectors
 use Rattle.law.specs.Galilean as Law
@@ -23,18 +22,4 @@ returns c = rw (
 ) (unfold TenRows.byBlocks TenRows.row10 Vectors.zero Law.byBlocks in refl)
 
 pub by-blocks-spec : {M : Type 1} → statement M
-by-blocks-spec =
-    tie.close
-    (tie.spec
-    (λ c κs. search needs)
-    (λ c κs. search needs)
-    (λ c κs. search needs)
-    (λ c κs. search needs)
-    (λ c κs. search needs)
-    (λ c κs. search needs)
-    (λ c κs. search needs)
-    (λ c κs. search needs)
-    (λ c κs. search needs)
-    (λ c κs. search needs)
-    (λ c κs. search needs)
-    returns)
+by-blocks-spec = tie.close (tie.spec _ _ _ _ _ _ _ _ _ _ _ returns)

@@ -29,23 +29,23 @@ neg-spec =
     tie.close
     (tie.spec
     (λ c. search needs)
-    (λ c κs. search needs)
+    _
     (λ c. search needs)
-    (λ c κs. search needs)
+    _
     (λ c. search needs)
-    (λ c κs. search needs)
+    _
     (λ c. search needs)
-    (λ c κs. search needs)
+    _
     (λ c. search needs)
-    (λ c κs. search needs)
+    _
     (λ c. search needs)
-    (λ c κs. search needs)
+    _
     (λ c. search needs)
-    (λ c κs. search needs)
+    _
     (λ c. search needs)
-    (λ c κs. search needs)
+    _
     (λ c. search needs)
-    (λ c κs. search needs)
+    _
     (λ c. search needs)
-    (λ c κs. search needs)
+    _
     returns)

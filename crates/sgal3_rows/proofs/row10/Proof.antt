@@ -1,6 +1,5 @@
 -- `sgal3_rows::row10` meets its contract. Assumes nothing.
 use mathlib.Core.Path.{refl}
-use borrow.Author.Needs.{needs}
 use Rattle.sgal3_rows.specs.TenRows as TenRows
 use Rattle.law.specs.Galilean as Law
 use Rattle.sgal3_rows.proofs.row10.Statement.{statement}

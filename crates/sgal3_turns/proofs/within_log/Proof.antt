@@ -4,31 +4,12 @@ use Rattle.sgal3_turns.specs.Turns as Turns
 use Rattle.sgal3_turns.proofs.within_log.Statement.{statement}
 use Rattle.sgal3_turns.proofs.within_log.Tie as tie
 
-returns : tie.Need-returns
-unfolding Turns.withinLog
-returns c =
-    rw (
-      ← c .before .before .before .rotation-impl .ensures,
-      ← c .before .before .within-log-jacobian .ensures,
-      c .enum-told .given .1,
-    )
-
-returns-2 : tie.Need-returns-2
-unfolding Turns.withinLog
-returns-2 c =
-    rw (
-      ← c .before .before .before .before .rotation-impl .ensures,
-      ← c .before .before .before .within-log-jacobian .ensures,
-      c .before .r .given .1,
-    )
-
 pub within-log-spec : {M : Type 1} → statement M
+unfolding Turns.withinLog
 within-log-spec =
     tie.close
-    (tie.spec
-    (λ c κs. search needs)
-    (λ c κs. search needs)
+    (tie.spec _ _
     (λ c. search needs)
     (λ c. search needs)
-    returns
-    returns-2)
+    (λ c. rw (← c .before .before .before .rotation-impl .ensures, ← c .before .before .within-log-jacobian .ensures, c .enum-told .given .1))
+    (λ c. rw (← c .before .before .before .before .rotation-impl .ensures, ← c .before .before .before .within-log-jacobian .ensures, c .before .r .given .1)))

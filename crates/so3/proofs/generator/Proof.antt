@@ -1,6 +1,5 @@
 -- `so3::generator` meets its contract. Assumes nothing.
 use mathlib.Core.Path.{refl}
-use borrow.Author.Needs.{needs}
 use borrow.Author.Tests.{eq-eqb, ne-eqb}
 use Rattle.law.specs.Vector as Vector
 use Rattle.linear.specs.Vectors as Vectors
@@ -27,6 +26,4 @@ returns-4 c =
     rw (ne-eqb _ _ (c .before .before .before .if1 .left), ne-eqb _ _ (c .before .before .if2 .left), ne-eqb _ _ (c .before .if3 .left), c .zero .ensures) refl
 
 pub generator-spec : {M : Type 1} → statement M
-generator-spec =
-    tie.close
-    (tie.spec (λ c κs. search needs) returns (λ c κs. search needs) returns-2 (λ c κs. search needs) returns-3 (λ c κs. search needs) returns-4)
+generator-spec = tie.close (tie.spec _ returns _ returns-2 _ returns-3 _ returns-4)

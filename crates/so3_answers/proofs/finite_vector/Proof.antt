@@ -4,13 +4,11 @@ use Rattle.so3_answers.specs.Answers as Answers
 use Rattle.so3_answers.proofs.finite_vector.Statement.{statement}
 use Rattle.so3_answers.proofs.finite_vector.Tie as tie
 
-returns : tie.Need-returns
-unfolding Answers.finiteVector
-returns c =
-    rw (
-      c .before .values .given .1,
-      ← c .all-finite .ensures,
-    )
-
 pub finite-vector-spec : {M : Type 1} → statement M
-finite-vector-spec = tie.close (tie.spec (λ c. search needs) (λ c κs. search needs) returns)
+unfolding Answers.finiteVector
+finite-vector-spec =
+    tie.close
+    (tie.spec
+    (λ c. search needs)
+    _
+    (λ c. rw (c .before .values .given .1, ← c .all-finite .ensures)))

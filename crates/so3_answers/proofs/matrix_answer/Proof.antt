@@ -4,31 +4,12 @@ use Rattle.so3_answers.specs.Answers as Answers
 use Rattle.so3_answers.proofs.matrix_answer.Statement.{statement}
 use Rattle.so3_answers.proofs.matrix_answer.Tie as tie
 
-returns : tie.Need-returns
-unfolding Answers.matrixAnswer
-returns c =
-    rw (
-      c .before .before .values .given .1,
-      ← c .before .all-finite .ensures,
-      c .if1 .taken,
-    )
-
-returns-2 : tie.Need-returns-2
-unfolding Answers.matrixAnswer
-returns-2 c =
-    rw (
-      c .before .before .before .values .given .1,
-      ← c .before .before .all-finite .ensures,
-      c .before .if1 .left,
-      ← c .refused-matrix .ensures,
-    )
-
 pub matrix-answer-spec : {M : Type 1} → statement M
+unfolding Answers.matrixAnswer
 matrix-answer-spec =
     tie.close
     (tie.spec
     (λ c. search needs)
-    (λ c κs. search needs)
-    (λ c κs. search needs)
-    returns
-    returns-2)
+    _ _
+    (λ c. rw (c .before .before .values .given .1, ← c .before .all-finite .ensures, c .if1 .taken))
+    (λ c. rw (c .before .before .before .values .given .1, ← c .before .before .all-finite .ensures, c .before .if1 .left, ← c .refused-matrix .ensures)))

@@ -5,9 +5,13 @@ use Rattle.so3_inputs.specs.Inputs as Inputs
 use Rattle.so3_inputs.proofs.element_of.Statement.{statement}
 use Rattle.so3_inputs.proofs.element_of.Tie as tie
 
-returns : tie.Need-returns
-unfolding Inputs.elementOf
-returns c = refl
-
 pub element-of-spec : {M : Type 1} → statement M
-element-of-spec = tie.close (tie.spec (λ c. search needs) (λ c. search needs) (λ c. search needs) (λ c. search needs) returns)
+unfolding Inputs.elementOf
+element-of-spec =
+    tie.close
+    (tie.spec
+    (λ c. search needs)
+    (λ c. search needs)
+    (λ c. search needs)
+    (λ c. search needs)
+    (λ c. refl))

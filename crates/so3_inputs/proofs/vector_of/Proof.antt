@@ -5,9 +5,12 @@ use Rattle.so3_inputs.specs.Inputs as Inputs
 use Rattle.so3_inputs.proofs.vector_of.Statement.{statement}
 use Rattle.so3_inputs.proofs.vector_of.Tie as tie
 
-returns : tie.Need-returns
-unfolding Inputs.vectorOf
-returns c = refl
-
 pub vector-of-spec : {M : Type 1} → statement M
-vector-of-spec = tie.close (tie.spec (λ c. search needs) (λ c. search needs) (λ c. search needs) returns)
+unfolding Inputs.vectorOf
+vector-of-spec =
+    tie.close
+    (tie.spec
+    (λ c. search needs)
+    (λ c. search needs)
+    (λ c. search needs)
+    (λ c. refl))

@@ -4,34 +4,14 @@ use Rattle.so3_tangent_blocks.specs.Calls as Calls
 use Rattle.so3_tangent_blocks.proofs.right_jacobian.Statement.{statement}
 use Rattle.so3_tangent_blocks.proofs.right_jacobian.Tie as tie
 
-returns : tie.Need-returns
-unfolding Calls.rightJacobian
-returns c =
-    rw (
-      ← c .before .before .before .before .before .check-exp .ensures,
-      c .before .before .before .t .given .1,
-      ← c .before .right-jacobian .ensures,
-      ← c .matrix-answer .ensures,
-    )
-
-returns-2 : tie.Need-returns-2
-unfolding Calls.rightJacobian
-returns-2 c =
-    rw (
-      ← c .before .before .before .before .check-exp .ensures,
-      c .before .before .r .given .1,
-      ← c .refused-matrix .ensures,
-    )
-
 pub right-jacobian-spec : {M : Type 1} → statement M
+unfolding Calls.rightJacobian
 right-jacobian-spec =
     tie.close
-    (tie.spec
-    (λ c κs. search needs)
+    (tie.spec _
     (λ c. search needs)
-    (λ c κs. search needs)
-    (λ c κs. search needs)
+    _ _
     (λ c. search needs)
-    (λ c κs. search needs)
-    returns
-    returns-2)
+    _
+    (λ c. rw (← c .before .before .before .before .before .check-exp .ensures, c .before .before .before .t .given .1, ← c .before .right-jacobian .ensures, ← c .matrix-answer .ensures))
+    (λ c. rw (← c .before .before .before .before .check-exp .ensures, c .before .before .r .given .1, ← c .refused-matrix .ensures)))

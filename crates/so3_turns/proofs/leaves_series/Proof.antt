@@ -4,9 +4,9 @@ use Rattle.so3_turns.specs.Turns as Turns
 use Rattle.so3_turns.proofs.leaves_series.Statement.{statement}
 use Rattle.so3_turns.proofs.leaves_series.Tie as tie
 
-returns : tie.Need-returns
-unfolding Turns.leavesSeries
-returns c = refl
-
 pub leaves-series-spec : {M : Type 1} → statement M
-leaves-series-spec = tie.close (tie.spec returns)
+unfolding Turns.leavesSeries
+leaves-series-spec =
+    tie.close
+    (tie.spec
+    (λ c. refl))

@@ -24,8 +24,7 @@ returns c =
 pub pattern-line-spec : {M : Type 1} → statement M
 pattern-line-spec =
     tie.close
-    (tie.spec
-    (λ c κs. search needs)
+    (tie.spec _
     (λ c. search needs)
     (λ c κs. search needs)
     (λ c. search needs)

@@ -1,6 +1,5 @@
 -- `sqrt_pairs::root_by_value` meets its contract by those of the three functions it calls. Assumes nothing.
-use borrow.Author.Needs.{needs}
-use Rattle.number.specs.Root.{squareRootBits}
+use Rattle.float.specs.Root.{squareRootBits}
 use Rattle.sqrt_pairs.proofs.root_by_value.Statement.{statement}
 use Rattle.sqrt_pairs.proofs.root_by_value.Tie as tie
 
@@ -9,4 +8,4 @@ unfolding squareRootBits
 returns c = cc
 
 pub root-by-value-spec : {M : Type 1} → statement M
-root-by-value-spec = tie.close (tie.spec (λ c κs. search needs) (λ c κs. search needs) (λ c κs. search needs) returns)
+root-by-value-spec = tie.close (tie.spec _ _ _ returns)

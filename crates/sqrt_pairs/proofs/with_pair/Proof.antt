@@ -26,4 +26,4 @@ returns-3 c =
     search needs
 
 pub with-pair-spec : {M : Type 1} → statement M
-with-pair-spec = tie.close (tie.spec (λ c. search needs) (λ c κs. search needs) returns (λ c. search needs) returns-2 returns-3)
+with-pair-spec = tie.close (tie.spec (λ c. search needs) _ returns (λ c. search needs) returns-2 returns-3)

@@ -1,10 +1,9 @@
 -- `words::finite_value` meets its contract. Assumes nothing.
-use mathlib.Core.Path.{_≡_, ap, _∙_}
-use mathlib.Core.Bool.{true}
+use mathlib.Core.Path.{ap, _∙_}
 use borrow.Author.Needs.{needs}
 use lib.Ieee.{binary64, ofBits}
 use lib.Ieee.Scale.{finite}
-use Rattle.number.proofs.Fields.{finite-not-nan}
+use Rattle.float.proofs.Fields.{finite-not-nan}
 use Rattle.words.specs.Word.{valueAt}
 use Rattle.words.proofs.finite_value.Statement.{statement}
 use Rattle.words.proofs.finite_value.Tie as tie

@@ -9,4 +9,4 @@ unfolding valueAt
 returns c = rw (c .is-finite-bits .ensures, c .before .word .ensures)
 
 pub is-finite-at-spec : {M : Type 1} → statement M
-is-finite-at-spec = tie.close (tie.spec (λ c κs. search needs) (λ c κs. search needs) returns)
+is-finite-at-spec = tie.close (tie.spec (λ c κs. search needs) _ returns)

@@ -1,7 +1,7 @@
 -- `words::of_bits` meets its contract: the NaN for a NaN's pattern, and a pattern that is none for f64::from_bits. Assumes nothing.
 use borrow.Author.Needs.{needs}
 use mathlib.Core.Path.{_∙_}
-use Rattle.number.proofs.Nan.{nan-made, nan-pattern, not-nan-pattern}
+use Rattle.float.proofs.Nan.{nan-made, nan-pattern, not-nan-pattern}
 use Rattle.words.proofs.of_bits.Statement.{statement}
 use Rattle.words.proofs.of_bits.Tie as tie
 

@@ -7,4 +7,4 @@ returns : tie.Need-returns
 returns c = cc
 
 pub put-value-spec : {M : Type 1} → statement M
-put-value-spec = tie.close (tie.spec (λ c κs. search needs) (λ c κs. search needs) (λ c. search needs) returns)
+put-value-spec = tie.close (tie.spec _ (λ c κs. search needs) (λ c. search needs) returns)

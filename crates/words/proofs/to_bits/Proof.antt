@@ -1,6 +1,6 @@
 -- `words::to_bits` meets its contract: what differs from itself is the NaN. Assumes nothing.
 use borrow.Author.Needs.{needs}
-use Rattle.number.proofs.Nan.{nan-bits, not-nan}
+use Rattle.float.proofs.Nan.{nan-bits, not-nan}
 use Rattle.words.proofs.to_bits.Statement.{statement}
 use Rattle.words.proofs.to_bits.Tie as tie
 

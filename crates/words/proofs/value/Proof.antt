@@ -9,4 +9,4 @@ unfolding valueAt
 returns c = cc
 
 pub value-spec : {M : Type 1} → statement M
-value-spec = tie.close (tie.spec (λ c κs. search needs) (λ c κs. search needs) returns)
+value-spec = tie.close (tie.spec (λ c κs. search needs) _ returns)

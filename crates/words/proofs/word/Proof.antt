@@ -27,5 +27,5 @@ word-spec =
     (λ c. search needs)
     (λ c. search needs)
     (λ c. search needs)
-    (λ c κs. search needs)
+    _
     returns)

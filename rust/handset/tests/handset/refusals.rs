@@ -1,26 +1,14 @@
 //! Each refusal, by the C entries themselves: the number, and an output that is as it was.
 use crate::{bytes, element, A, B};
+use handset::entries;
 use handset::{chain, compose, inverse, Element, Refusal, CHAIN_MOST, ELEMENT_BYTES};
-
-extern "C" {
-    fn sgal3_compose(
-        left: *const u8,
-        left_len: usize,
-        right: *const u8,
-        right_len: usize,
-        out: *mut u8,
-        out_len: usize,
-    ) -> u32;
-    fn sgal3_inverse(block: *const u8, block_len: usize, out: *mut u8, out_len: usize) -> u32;
-    fn sgal3_chain(blocks: *const u8, blocks_len: usize, out: *mut u8, out_len: usize) -> u32;
-}
 
 const FILL: u8 = 0xa5;
 
 /// The number that a call with an output of `len` bytes returns, a refusal. The output, and the bytes beside it, stay.
-fn refused(len: usize, call: impl Fn(*mut u8, usize) -> u32) -> u32 {
+fn refused(len: usize, call: impl Fn(&mut [u8]) -> u32) -> u32 {
     let mut buffer = vec![FILL; len + 16];
-    let number = call(buffer[8..].as_mut_ptr(), len);
+    let number = call(&mut buffer[8..8 + len]);
     assert_ne!(number, 0);
     assert!(
         buffer.iter().all(|&b| b == FILL),
@@ -30,31 +18,15 @@ fn refused(len: usize, call: impl Fn(*mut u8, usize) -> u32) -> u32 {
 }
 
 fn compose_into(len: usize, left: &[u8], right: &[u8]) -> u32 {
-    // SAFETY: the pointers and lengths are those of slices, and of a part of a buffer that no slice overlaps.
-    refused(len, |out, len| unsafe {
-        sgal3_compose(
-            left.as_ptr(),
-            left.len(),
-            right.as_ptr(),
-            right.len(),
-            out,
-            len,
-        )
-    })
+    refused(len, |out| entries::compose(left, right, out))
 }
 
 fn inverse_into(len: usize, block: &[u8]) -> u32 {
-    // SAFETY: the pointers and lengths are those of a slice, and of a part of a buffer that it doesn't overlap.
-    refused(len, |out, len| unsafe {
-        sgal3_inverse(block.as_ptr(), block.len(), out, len)
-    })
+    refused(len, |out| entries::inverse(block, out))
 }
 
 fn chain_into(len: usize, blocks: &[u8]) -> u32 {
-    // SAFETY: the pointers and lengths are those of a slice, and of a part of a buffer that it doesn't overlap.
-    refused(len, |out, len| unsafe {
-        sgal3_chain(blocks.as_ptr(), blocks.len(), out, len)
-    })
+    refused(len, |out| entries::chain(blocks, out))
 }
 
 /// A block is refused as `number` wherever it stands, beside a good one.

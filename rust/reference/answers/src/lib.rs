@@ -3,7 +3,8 @@
 //! name gives the values, and 5 looks at these.
 //!
 //! Values are handed over as bits. A NaN can come in, where only its being none is asked, and never gets out: a
-//! result that holds one is refused with 5. So nothing here depends on a NaN's sign or payload, which Rust leaves open.
+//! result that holds one is refused with 5. from_param_slice alone hands a NaN back, always with the same bits. So
+//! nothing here depends on a NaN's sign or payload, which Rust leaves open.
 
 mod turns;
 mod values;

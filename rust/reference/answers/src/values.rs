@@ -4,13 +4,17 @@ use apex::sgal3::{Matrix10, SGal3, SGal3Tangent};
 use apex::so3::{SO3, SO3Tangent};
 use apex::{LieGroup, Tangent};
 use nalgebra::{Matrix3, Quaternion, SMatrix, UnitQuaternion, Vector3};
+use requests::calls::Answer;
 use requests::{CALLS, Call, Request, refusals};
 use std::sync::LazyLock;
 
-/// Puts the values there, and tells whether all of them are finite; of a chain, those of every partial element.
+/// Puts the values there, and tells whether all of them are finite, where that is asked; of a chain, those of every partial element.
 pub fn put(call: &Call, request: &Request, to: &mut Vec<u64>) -> bool {
     let function = BY_NUMBER[call.number as usize].expect("every call has a function");
-    function(request, to) && refusals::overflow(to).is_none()
+    if !function(request, to) {
+        return false;
+    }
+    call.answer == Answer::AsGiven || refusals::overflow(to).is_none()
 }
 
 fn values<const N: usize>(block: &[u64]) -> [f64; N] {
@@ -82,6 +86,19 @@ fn sgal3(to: To, element: SGal3) -> bool {
     list(to, element.as_param_slice())
 }
 
+/// The values of an element; for every NaN the one whose bits the format has.
+fn as_given(to: To, element: SGal3) -> bool {
+    const INFINITY: u64 = 0x7FF0_0000_0000_0000;
+    const NAN: u64 = 0x7FF8_0000_0000_0000;
+    sgal3(to, element);
+    for bits in to {
+        if *bits & (u64::MAX >> 1) > INFINITY {
+            *bits = NAN;
+        }
+    }
+    true
+}
+
 fn yes_or_no(to: To, yes: bool) -> bool {
     to.push(yes.into());
     true
@@ -126,9 +143,10 @@ static BY_NUMBER: LazyLock<Vec<Option<Function>>> = LazyLock::new(|| {
 /// differences aren't there.
 #[rustfmt::skip]
 const FUNCTIONS: &[(&str, Function)] = &[
-    // ---- the checks: nothing is left to give
+    // ---- the checks: nothing is left to give; and an element as given
     ("validate_sgal3_params", |_, _| true),
     ("validate_so3_params", |_, _| true),
+    ("sgal3_from_param_slice", |x, to| as_given(to, element(&x.first))),
     // ---- SO(3): elements
     ("so3_try_from_quaternion_wxyz", |x, to| { let [w, i, j, k] = values(&x.first); SO3::try_from_quaternion_wxyz(w, i, j, k).is_ok_and(|q| so3(to, q)) }),
     ("so3_is_valid", |x, to| yes_or_no(to, rotation(&x.first).is_valid(f64::from_bits(x.extra)))),

@@ -1,7 +1,33 @@
-//! What the programs `compare` and `sample` share: counts of outcomes by call, and a request and an outcome in words.
+//! What the programs `compare`, `draw` and `sample` share: random requests with the reference's answers, counts of outcomes by call, and
+//! a request and an outcome in words.
 
+use requests::generators::Generator;
 use requests::{CALLS, Call, Outcome, Request};
 use std::fmt::Write;
+
+/// Random requests and the reference's answers. These are taken up as later inputs, so that the requests depend on the seed alone.
+pub struct Drawn {
+    generator: Generator,
+    pub request: Request,
+    pub outcome: Outcome,
+}
+
+impl Drawn {
+    pub fn new(seed: u64) -> Self {
+        Drawn {
+            generator: Generator::new(seed),
+            request: Request::default(),
+            outcome: Outcome::default(),
+        }
+    }
+
+    /// Draws the next request and answers it.
+    pub fn draw(&mut self) {
+        self.generator.draw(&mut self.request);
+        answers::answer(&self.request, &mut self.outcome);
+        self.generator.learn(self.request.call(), &self.outcome);
+    }
+}
 
 /// For every call, how many requests had each outcome from 0 to 5.
 pub struct Counts {

@@ -1,41 +1,36 @@
 //! Random requests meet every outcome that a call can have, and no other; both written forms are read back as they were.
 
-use compare::Counts;
-use requests::generators::Generator;
+use compare::{Counts, Drawn};
 use requests::{Outcome, Request};
 use std::process::{Command, Stdio};
 
 #[test]
 fn every_outcome_of_every_call() {
-    let mut generator = Generator::new(1);
-    let (mut request, mut outcome) = (Request::default(), Outcome::default());
+    let mut drawn = Drawn::new(1);
     let mut counts = Counts::default();
     for _ in 0..400_000 {
-        generator.draw(&mut request);
-        answers::answer(&request, &mut outcome);
-        generator.learn(request.call(), &outcome);
-        counts.add(request.number, outcome.number);
+        drawn.draw();
+        counts.add(drawn.request.number, drawn.outcome.number);
     }
     assert_eq!(counts.unexpected(), Vec::<String>::new());
 }
 
 #[test]
 fn read_back_as_written() {
-    let mut generator = Generator::new(2);
-    let (mut request, mut outcome) = (Request::default(), Outcome::default());
+    let mut drawn = Drawn::new(2);
     let (mut read_request, mut read_outcome) = (Request::default(), Outcome::default());
     let mut written = Vec::new();
     for _ in 0..10_000 {
-        generator.draw(&mut request);
-        answers::answer(&request, &mut outcome);
+        drawn.draw();
         written.clear();
-        request.write(&mut written);
-        outcome.write(&mut written);
+        drawn.request.write(&mut written);
+        drawn.outcome.write(&mut written);
         let mut from = &written[..];
         assert!(read_request.read(&mut from).unwrap());
         assert!(read_outcome.read(&mut from).unwrap());
         assert!(!read_outcome.read(&mut from).unwrap());
-        assert_eq!((&read_request, &read_outcome), (&request, &outcome));
+        assert_eq!(read_request, drawn.request);
+        assert_eq!(read_outcome, drawn.outcome);
     }
 }
 

@@ -7,8 +7,7 @@
 //! Exit status: 0, no difference; 1, a difference, or an outcome that was never met; 2, a wrong command.
 
 use compare::{describe_outcome, describe_request};
-// For its build script, which finds the static library.
-use handset as _;
+use handset::{ELEMENT_BYTES, entries};
 use requests::calls::call;
 use requests::generators::Generator;
 use requests::random::Random;
@@ -22,20 +21,6 @@ const CHAIN: u64 = 72;
 const CALLS: [u64; 3] = [COMPOSE, INVERSE, CHAIN];
 /// The outcomes that an entry can have: none tests a turn.
 const OUTCOMES: [usize; 5] = [0, 1, 2, 3, 5];
-const ELEMENT: usize = 88;
-
-unsafe extern "C" {
-    fn sgal3_compose(
-        a: *const u8,
-        a_len: usize,
-        b: *const u8,
-        b_len: usize,
-        out: *mut u8,
-        out_len: usize,
-    ) -> u32;
-    fn sgal3_inverse(a: *const u8, a_len: usize, out: *mut u8, out_len: usize) -> u32;
-    fn sgal3_chain(a: *const u8, a_len: usize, out: *mut u8, out_len: usize) -> u32;
-}
 
 /// A call of an entry: the bytes of the blocks, and what the output holds before.
 struct Entry {
@@ -141,7 +126,7 @@ fn entry(random: &mut Random, request: &Request) -> Entry {
     let second = bytes(&request.second, request.number == COMPOSE);
     let length = match random.below(64) {
         0 => random.pick(&[0, 1, 80, 87, 89, 96, 176]),
-        _ => ELEMENT,
+        _ => ELEMENT_BYTES,
     };
     Entry {
         number: request.number,
@@ -154,15 +139,15 @@ fn entry(random: &mut Random, request: &Request) -> Entry {
 /// What the reference says: the lengths in bytes first, then the request.
 fn expect(entry: &Entry, request: &mut Request, outcome: &mut Outcome) {
     let whole = match entry.number {
-        COMPOSE => entry.first.len() == ELEMENT && entry.second.len() == ELEMENT,
-        INVERSE => entry.first.len() == ELEMENT,
+        COMPOSE => entry.first.len() == ELEMENT_BYTES && entry.second.len() == ELEMENT_BYTES,
+        INVERSE => entry.first.len() == ELEMENT_BYTES,
         _ => {
-            entry.first.len().is_multiple_of(ELEMENT)
-                && entry.first.len() <= LONGEST_CHAIN * ELEMENT
+            entry.first.len().is_multiple_of(ELEMENT_BYTES)
+                && entry.first.len() <= LONGEST_CHAIN * ELEMENT_BYTES
         }
     };
-    if entry.out.len() != ELEMENT || !whole {
-        let (expected, actual) = (ELEMENT, entry.first.len());
+    if entry.out.len() != ELEMENT_BYTES || !whole {
+        let (expected, actual) = (ELEMENT_BYTES, entry.first.len());
         return outcome.refuse(request.call(), Refusal::Length { expected, actual });
     }
     let values = |bytes: &[u8]| {
@@ -182,22 +167,10 @@ fn expect(entry: &Entry, request: &mut Request, outcome: &mut Outcome) {
 fn compare(entry: &Entry, expected: &Outcome) -> Result<(), String> {
     let (first, second) = (entry.first.clone(), entry.second.clone());
     let mut out = entry.out.clone();
-    let (to, length) = (out.as_mut_ptr(), out.len());
-    // SAFETY: each pointer is that of an allocation of the length beside it, none overlaps another, and an empty
-    // box's pointer is not null.
-    let number = unsafe {
-        match entry.number {
-            COMPOSE => sgal3_compose(
-                first.as_ptr(),
-                first.len(),
-                second.as_ptr(),
-                second.len(),
-                to,
-                length,
-            ),
-            INVERSE => sgal3_inverse(first.as_ptr(), first.len(), to, length),
-            _ => sgal3_chain(first.as_ptr(), first.len(), to, length),
-        }
+    let number = match entry.number {
+        COMPOSE => entries::compose(&first, &second, &mut out),
+        INVERSE => entries::inverse(&first, &mut out),
+        _ => entries::chain(&first, &mut out),
     };
     if u64::from(number) != expected.number {
         return Err(format!("the entry answers {number}"));

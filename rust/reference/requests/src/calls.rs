@@ -67,6 +67,8 @@ pub enum Answer {
     Number,
     /// The eleven values of an element, in a place of their own.
     Coefficients,
+    /// The eleven values of an element of which nothing was asked, so that any of them may be infinite or the NaN.
+    AsGiven,
     /// A matrix in a place of its own, by row: so many values.
     Matrix(usize),
     /// A matrix of a call that never refuses.
@@ -78,7 +80,7 @@ impl Answer {
         match self {
             Answer::Nothing => 0,
             Answer::YesOrNo | Answer::Number => 1,
-            Answer::Element | Answer::Coefficients => 11,
+            Answer::Element | Answer::Coefficients | Answer::AsGiven => 11,
             Answer::Rotation => 4,
             Answer::Sgal3Tangent => 10,
             Answer::So3Tangent | Answer::Vector => 3,
@@ -207,9 +209,10 @@ use Turn::{Exp, Log, LogAndAngle, Untested};
 /// Every call, by rising number.
 #[rustfmt::skip]
 pub const CALLS: &[Call] = &[
-    // ---- the checks
+    // ---- the checks, and an element as given
     entry(0, "validate_sgal3_params", B::Element, B::Absent, A::Nothing, Untested, SAFE),
     entry(1, "validate_so3_params", B::Rotation, B::Absent, A::Nothing, Untested, SAFE),
+    entry(2, "sgal3_from_param_slice", B::AnyElement, B::Absent, A::AsGiven, Untested, SAFE),
     // ---- SO(3): elements
     entry(TRY_FROM_QUATERNION, "so3_try_from_quaternion_wxyz", B::Rotation, B::Absent, A::Rotation, Untested, SAFE),
     entry(11, "so3_is_valid", B::AnyRotation, B::Absent, A::YesOrNo, Untested, SAFE),

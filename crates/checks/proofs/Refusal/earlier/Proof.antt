@@ -1,5 +1,4 @@
 -- `checks::Refusal::earlier` meets its contract. Assumes nothing.
-use borrow.Author.Needs.{needs}
 use borrow.Author.Tests.{lt-ltb, le-ltb}
 use Rattle.checks.specs.Refusals.{earlier}
 use Rattle.checks.proofs.Refusal.earlier.Statement.{statement}
@@ -14,4 +13,4 @@ unfolding earlier
 returns-2 c = rw (← c .before .number2 .ensures, ← c .before .before .number .ensures, le-ltb _ _ (c .if1 .left))
 
 pub earlier-spec : {M : Type 1} → statement M
-earlier-spec = tie.close (tie.spec (λ c κs. search needs) (λ c κs. search needs) returns returns-2)
+earlier-spec = tie.close (tie.spec _ _ returns returns-2)

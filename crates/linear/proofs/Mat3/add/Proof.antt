@@ -1,6 +1,5 @@
 -- `linear::Mat3::add` meets its contract. Assumes nothing.
 use mathlib.Core.Path.{refl}
-use borrow.Author.Needs.{needs}
 use Rattle.law.specs.Matrix as Law
 use Rattle.linear.specs.Vectors as Vectors
 use Rattle.linear.specs.Matrices as Matrices
@@ -15,4 +14,4 @@ returns c = rw (
 ) (unfold Matrices.add Vectors.add Law.add in refl)
 
 pub add-spec : {M : Type 1} → statement M
-add-spec = tie.close (tie.spec (λ c κs. search needs) (λ c κs. search needs) (λ c κs. search needs) returns)
+add-spec = tie.close (tie.spec _ _ _ returns)

@@ -1,6 +1,5 @@
 -- `linear::Mat3::apply` meets its contract. Assumes nothing.
 use mathlib.Core.Path.{refl}
-use borrow.Author.Needs.{needs}
 use Rattle.law.specs.Matrix as Law
 use Rattle.linear.specs.Vectors as Vectors
 use Rattle.linear.specs.Matrices as Matrices
@@ -15,4 +14,4 @@ returns c = rw (
 ) (unfold Matrices.apply Vectors.dot Law.apply in refl)
 
 pub apply-spec : {M : Type 1} → statement M
-apply-spec = tie.close (tie.spec (λ c κs. search needs) (λ c κs. search needs) (λ c κs. search needs) returns)
+apply-spec = tie.close (tie.spec _ _ _ returns)

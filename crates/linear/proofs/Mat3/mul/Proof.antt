@@ -1,6 +1,5 @@
 -- `linear::Mat3::mul` meets its contract. Assumes nothing.
 use mathlib.Core.Path.{refl}
-use borrow.Author.Needs.{needs}
 use Rattle.law.specs.Matrix as Law
 use Rattle.linear.specs.Matrices as Matrices
 use Rattle.linear.proofs.Mat3.mul.Statement.{statement}
@@ -14,4 +13,4 @@ returns c = rw (
 ) (unfold Matrices.mul Matrices.rowBy Law.mul in refl)
 
 pub mul-spec : {M : Type 1} → statement M
-mul-spec = tie.close (tie.spec (λ c κs. search needs) (λ c κs. search needs) (λ c κs. search needs) returns)
+mul-spec = tie.close (tie.spec _ _ _ returns)

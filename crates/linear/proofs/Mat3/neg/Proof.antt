@@ -1,6 +1,5 @@
 -- `linear::Mat3::neg` meets its contract. Assumes nothing.
 use mathlib.Core.Path.{refl}
-use borrow.Author.Needs.{needs}
 use Rattle.law.specs.Matrix as Law
 use Rattle.linear.specs.Vectors as Vectors
 use Rattle.linear.specs.Matrices as Matrices
@@ -15,4 +14,4 @@ returns c = rw (
 ) (unfold Matrices.neg Vectors.neg Law.neg in refl)
 
 pub neg-spec : {M : Type 1} → statement M
-neg-spec = tie.close (tie.spec (λ c κs. search needs) (λ c κs. search needs) (λ c κs. search needs) returns)
+neg-spec = tie.close (tie.spec _ _ _ returns)

@@ -1,6 +1,5 @@
 -- `linear::Mat3::scale` meets its contract. Assumes nothing.
 use mathlib.Core.Path.{refl}
-use borrow.Author.Needs.{needs}
 use Rattle.law.specs.Matrix as Law
 use Rattle.linear.specs.Vectors as Vectors
 use Rattle.linear.specs.Matrices as Matrices
@@ -15,4 +14,4 @@ returns c = rw (
 ) (unfold Matrices.scale Vectors.scale Law.scale in refl)
 
 pub scale-spec : {M : Type 1} → statement M
-scale-spec = tie.close (tie.spec (λ c κs. search needs) (λ c κs. search needs) (λ c κs. search needs) returns)
+scale-spec = tie.close (tie.spec _ _ _ returns)

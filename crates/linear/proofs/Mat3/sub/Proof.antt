@@ -1,6 +1,5 @@
 -- `linear::Mat3::sub` meets its contract. Assumes nothing.
 use mathlib.Core.Path.{refl}
-use borrow.Author.Needs.{needs}
 use Rattle.law.specs.Matrix as Law
 use Rattle.linear.specs.Vectors as Vectors
 use Rattle.linear.specs.Matrices as Matrices
@@ -15,4 +14,4 @@ returns c = rw (
 ) (unfold Matrices.sub Vectors.sub Law.sub in refl)
 
 pub sub-spec : {M : Type 1} → statement M
-sub-spec = tie.close (tie.spec (λ c κs. search needs) (λ c κs. search needs) (λ c κs. search needs) returns)
+sub-spec = tie.close (tie.spec _ _ _ returns)

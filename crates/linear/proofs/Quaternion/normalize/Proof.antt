@@ -1,6 +1,5 @@
 -- `linear::Quaternion::normalize` meets its contract. Assumes nothing.
 use mathlib.Core.Path.{refl}
-use borrow.Author.Needs.{needs}
 use Rattle.law.specs.Quaternion as Law
 use Rattle.linear.specs.Quaternions as Quaternions
 use Rattle.linear.proofs.Quaternion.normalize.Statement.{statement}
@@ -13,4 +12,4 @@ returns c = rw (
 ) (unfold Quaternions.normalize Quaternions.norm Quaternions.divide Law.normalize in refl)
 
 pub normalize-spec : {M : Type 1} → statement M
-normalize-spec = tie.close (tie.spec (λ c κs. search needs) (λ c κs. search needs) returns)
+normalize-spec = tie.close (tie.spec _ _ returns)

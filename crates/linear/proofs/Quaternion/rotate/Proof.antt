@@ -1,6 +1,5 @@
 -- `linear::Quaternion::rotate` meets its contract. Assumes nothing.
 use mathlib.Core.Path.{refl}
-use borrow.Author.Needs.{needs}
 use Rattle.law.specs.Quaternion as Law
 use Rattle.linear.specs.Vectors as Vectors
 use Rattle.linear.specs.Quaternions as Quaternions
@@ -19,4 +18,4 @@ returns c = rw (
 ) (unfold Quaternions.rotate Quaternions.vector Vectors.cross Vectors.scale Vectors.add Law.rotate in refl)
 
 pub rotate-spec : {M : Type 1} → statement M
-rotate-spec = tie.close (tie.spec (λ c κs. search needs) (λ c κs. search needs) (λ c κs. search needs) (λ c κs. search needs) (λ c κs. search needs) (λ c κs. search needs) (λ c κs. search needs) returns)
+rotate-spec = tie.close (tie.spec _ _ _ _ _ _ _ returns)

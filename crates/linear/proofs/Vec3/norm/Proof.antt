@@ -1,6 +1,5 @@
 -- `linear::Vec3::norm` meets its contract. Assumes nothing.
 use mathlib.Core.Path.{refl}
-use borrow.Author.Needs.{needs}
 use Rattle.law.specs.Vector as Law
 use Rattle.linear.specs.Vectors as Vectors
 use Rattle.linear.proofs.Vec3.norm.Statement.{statement}
@@ -13,4 +12,4 @@ returns c = rw (
 ) (unfold Vectors.norm Vectors.normSquared Law.norm in refl)
 
 pub norm-spec : {M : Type 1} → statement M
-norm-spec = tie.close (tie.spec (λ c κs. search needs) (λ c κs. search needs) returns)
+norm-spec = tie.close (tie.spec _ _ returns)

@@ -1,6 +1,5 @@
 -- `sgal3::Element::act` meets its contract. Assumes nothing.
 use mathlib.Core.Path.{refl}
-use borrow.Author.Needs.{needs}
 use Rattle.sgal3.specs.Elements as Elements
 use Rattle.linear.specs.Quaternions as Quaternions
 use Rattle.linear.specs.Vectors as Vectors
@@ -18,12 +17,4 @@ returns c = rw (
 ) (unfold Elements.act Elements.rotationQuaternion Quaternions.rotate Vectors.add Vectors.scale Law.act Law.actAt in refl)
 
 pub act-spec : {M : Type 1} → statement M
-act-spec =
-    tie.close
-    (tie.spec
-    (λ c κs. search needs)
-    (λ c κs. search needs)
-    (λ c κs. search needs)
-    (λ c κs. search needs)
-    (λ c κs. search needs)
-    returns)
+act-spec = tie.close (tie.spec _ _ _ _ _ returns)

@@ -1,6 +1,5 @@
 -- `sgal3::Element::compose` meets its contract. Assumes nothing.
 use mathlib.Core.Path.{refl}
-use borrow.Author.Needs.{needs}
 use Rattle.sgal3.specs.Elements as Elements
 use Rattle.law.specs.Galilean as Law
 use Rattle.linear.specs.Vectors as Vectors
@@ -22,16 +21,4 @@ returns c = rw (
 ) (unfold Elements.compose Elements.rotationQuaternion Quaternions.mul Quaternions.rotate Vectors.add Vectors.scale Law.compose Law.composeAt in refl)
 
 pub compose-spec : {M : Type 1} → statement M
-compose-spec =
-    tie.close
-    (tie.spec
-    (λ c κs. search needs)
-    (λ c κs. search needs)
-    (λ c κs. search needs)
-    (λ c κs. search needs)
-    (λ c κs. search needs)
-    (λ c κs. search needs)
-    (λ c κs. search needs)
-    (λ c κs. search needs)
-    (λ c κs. search needs)
-    returns)
+compose-spec = tie.close (tie.spec _ _ _ _ _ _ _ _ _ returns)

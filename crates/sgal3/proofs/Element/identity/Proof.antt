@@ -1,6 +1,5 @@
 -- `sgal3::Element::identity` meets its contract. Assumes nothing.
 use mathlib.Core.Path.{refl}
-use borrow.Author.Needs.{needs}
 use Rattle.sgal3.specs.Elements as Elements
 use Rattle.law.specs.Galilean as Law
 use Rattle.linear.specs.Vectors as Vectors
@@ -16,4 +15,4 @@ returns c = rw (
 ) (unfold Elements.identity Vectors.zero Quaternions.identity Law.identity in refl)
 
 pub identity-spec : {M : Type 1} → statement M
-identity-spec = tie.close (tie.spec (λ c κs. search needs) (λ c κs. search needs) (λ c κs. search needs) returns)
+identity-spec = tie.close (tie.spec _ _ _ returns)

@@ -1,6 +1,5 @@
 -- `sgal3::Element::inverse` meets its contract. Assumes nothing.
 use mathlib.Core.Path.{refl}
-use borrow.Author.Needs.{needs}
 use Rattle.sgal3.specs.Elements as Elements
 use Rattle.law.specs.Galilean as Law
 use Rattle.law.specs.Rotation as Rotation
@@ -23,16 +22,4 @@ returns c = rw (
 ) (unfold Elements.inverse Elements.rotationQuaternion Quaternions.conjugate Quaternions.normalize Quaternions.rotate Vectors.sub Vectors.scale Vectors.neg Rotation.inverse Rotation.unitQuaternion Law.inverse Law.inverseAt in refl)
 
 pub inverse-spec : {M : Type 1} → statement M
-inverse-spec =
-    tie.close
-    (tie.spec
-    (λ c κs. search needs)
-    (λ c κs. search needs)
-    (λ c κs. search needs)
-    (λ c κs. search needs)
-    (λ c κs. search needs)
-    (λ c κs. search needs)
-    (λ c κs. search needs)
-    (λ c κs. search needs)
-    (λ c κs. search needs)
-    returns)
+inverse-spec = tie.close (tie.spec _ _ _ _ _ _ _ _ _ returns)

@@ -26,12 +26,4 @@ returns-2 c =
     )
 
 pub is-valid-spec : {M : Type 1} → statement M
-is-valid-spec =
-    tie.close
-    (tie.spec
-    (λ c. search needs)
-    (λ c κs. search needs)
-    returns
-    (λ c κs. search needs)
-    (λ c κs. search needs)
-    returns-2)
+is-valid-spec = tie.close (tie.spec (λ c. search needs) _ returns _ _ returns-2)

@@ -1,6 +1,5 @@
 -- `sgal3::Element::log` meets its contract. Assumes nothing.
 use mathlib.Core.Path.{refl}
-use borrow.Author.Needs.{needs}
 use Rattle.sgal3.specs.Elements as Elements
 use Rattle.sgal3.specs.Tangents as Tangents
 use Rattle.so3.specs.Tangents as So3·Tangents
@@ -24,16 +23,4 @@ returns c = rw (
 ) (unfold Elements.log Tangents.sNuCoupling So3·Tangents.leftJacobianInv Matrices.apply Vectors.sub Vectors.scale Law·Series.logAt Law·Series.logBy in refl)
 
 pub log-spec : {M : Type 1} → statement M
-log-spec =
-    tie.close
-    (tie.spec
-    (λ c κs. search needs)
-    (λ c κs. search needs)
-    (λ c κs. search needs)
-    (λ c κs. search needs)
-    (λ c κs. search needs)
-    (λ c κs. search needs)
-    (λ c κs. search needs)
-    (λ c κs. search needs)
-    (λ c κs. search needs)
-    returns)
+log-spec = tie.close (tie.spec _ _ _ _ _ _ _ _ _ returns)

@@ -1,6 +1,5 @@
 -- `sgal3::Element::normalize` meets its contract. Assumes nothing.
 use mathlib.Core.Path.{refl}
-use borrow.Author.Needs.{needs}
 use Rattle.sgal3.specs.Elements as Elements
 use Rattle.so3.specs.Elements as So3
 use Rattle.law.specs.Galilean as Law
@@ -14,4 +13,4 @@ returns c = rw (
 ) (unfold Elements.normalize Elements.rotationImpl So3.normalize Law.normalize in refl)
 
 pub normalize-spec : {M : Type 1} → statement M
-normalize-spec = tie.close (tie.spec (λ c κs. search needs) (λ c κs. search needs) returns)
+normalize-spec = tie.close (tie.spec _ _ returns)

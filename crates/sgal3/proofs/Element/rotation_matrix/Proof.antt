@@ -1,6 +1,5 @@
 -- `sgal3::Element::rotation_matrix` meets its contract. Assumes nothing.
 use mathlib.Core.Path.{refl}
-use borrow.Author.Needs.{needs}
 use Rattle.sgal3.specs.Elements as Elements
 use Rattle.linear.specs.Quaternions as Quaternions
 use Rattle.law.specs.Galilean as Law
@@ -15,5 +14,4 @@ returns c = rw (
 ) (unfold Elements.rotationMatrix Elements.rotationQuaternion Quaternions.rotationMatrix Law.rotationMatrix Rotation.rotationMatrix in refl)
 
 pub rotation-matrix-spec : {M : Type 1} → statement M
-rotation-matrix-spec =
-    tie.close (tie.spec (λ c κs. search needs) (λ c κs. search needs) returns)
+rotation-matrix-spec = tie.close (tie.spec _ _ returns)

@@ -1,6 +1,5 @@
 -- `sgal3::Element::rotation_quaternion` meets its contract. Assumes nothing.
 use mathlib.Core.Path.{refl}
-use borrow.Author.Needs.{needs}
 use Rattle.sgal3.specs.Elements as Elements
 use Rattle.law.specs.Galilean as Law
 use Rattle.law.specs.Rotation as Rotation
@@ -15,4 +14,4 @@ returns c = rw (
 ) (unfold Elements.rotationQuaternion Quaternions.normalize Rotation.unitQuaternion Law.rotationImpl in refl)
 
 pub rotation-quaternion-spec : {M : Type 1} → statement M
-rotation-quaternion-spec = tie.close (tie.spec (λ c κs. search needs) (λ c κs. search needs) returns)
+rotation-quaternion-spec = tie.close (tie.spec _ _ returns)

@@ -1,6 +1,5 @@
 -- `sgal3::Tangent::exp` meets its contract. Assumes nothing.
 use mathlib.Core.Path.{refl}
-use borrow.Author.Needs.{needs}
 use Rattle.sgal3.specs.Tangents as Tangents
 use Rattle.so3.specs.Tangents as So3·Tangents
 use Rattle.linear.specs.Matrices as Matrices
@@ -22,15 +21,4 @@ returns c = rw (
 ) (unfold Tangents.exp Tangents.sNuCoupling So3·Tangents.exp So3·Tangents.leftJacobian Matrices.apply Vectors.add Vectors.scale Law·Series.exp Law·Series.expBy in refl)
 
 pub exp-spec : {M : Type 1} → statement M
-exp-spec =
-    tie.close
-    (tie.spec
-    (λ c κs. search needs)
-    (λ c κs. search needs)
-    (λ c κs. search needs)
-    (λ c κs. search needs)
-    (λ c κs. search needs)
-    (λ c κs. search needs)
-    (λ c κs. search needs)
-    (λ c κs. search needs)
-    returns)
+exp-spec = tie.close (tie.spec _ _ _ _ _ _ _ _ returns)

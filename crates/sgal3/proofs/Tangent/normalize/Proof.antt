@@ -1,6 +1,5 @@
 -- `sgal3::Tangent::normalize` meets its contract. Assumes nothing.
 use mathlib.Core.Path.{refl}
-use borrow.Author.Needs.{needs}
 use Rattle.sgal3.specs.Tangents as Tangents
 use Rattle.sgal3.proofs.Tangent.normalize.Statement.{statement}
 use Rattle.sgal3.proofs.Tangent.normalize.Tie as tie
@@ -9,4 +8,4 @@ returns : tie.Need-returns
 returns c = rw (c .before .normalize .ensures) (unfold Tangents.normalize in refl)
 
 pub normalize-spec : {M : Type 1} → statement M
-normalize-spec = tie.close (tie.spec (λ c κs. search needs) returns)
+normalize-spec = tie.close (tie.spec _ returns)

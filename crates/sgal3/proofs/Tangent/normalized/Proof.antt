@@ -1,6 +1,5 @@
 -- `sgal3::Tangent::normalized` meets its contract. Assumes nothing.
 use mathlib.Core.Path.{refl}
-use borrow.Author.Needs.{needs}
 use Rattle.sgal3.specs.Tangents as Tangents
 use Rattle.sgal3.proofs.Tangent.normalized.Statement.{statement}
 use Rattle.sgal3.proofs.Tangent.normalized.Tie as tie
@@ -9,4 +8,4 @@ returns : tie.Need-returns
 returns c = rw (c .before .normalized .ensures) (unfold Tangents.normalized in refl)
 
 pub normalized-spec : {M : Type 1} → statement M
-normalized-spec = tie.close (tie.spec (λ c κs. search needs) returns)
+normalized-spec = tie.close (tie.spec _ returns)

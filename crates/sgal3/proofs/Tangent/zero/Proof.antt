@@ -1,6 +1,5 @@
 -- `sgal3::Tangent::zero` meets its contract. Assumes nothing.
 use mathlib.Core.Path.{refl}
-use borrow.Author.Needs.{needs}
 use Rattle.sgal3.specs.Tangents as Tangents
 use Rattle.linear.specs.Vectors as Vectors
 use Rattle.sgal3.proofs.Tangent.zero.Statement.{statement}
@@ -14,4 +13,4 @@ returns c = rw (
 ) (unfold Tangents.zero Vectors.zero in refl)
 
 pub zero-spec : {M : Type 1} → statement M
-zero-spec = tie.close (tie.spec (λ c κs. search needs) (λ c κs. search needs) (λ c κs. search needs) returns)
+zero-spec = tie.close (tie.spec _ _ _ returns)

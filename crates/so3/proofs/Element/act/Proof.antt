@@ -1,6 +1,5 @@
 -- `so3::Element::act` meets its contract. Assumes nothing.
 use mathlib.Core.Path.{refl}
-use borrow.Author.Needs.{needs}
 use Rattle.law.specs.Rotation as Law
 use Rattle.linear.specs.Quaternions as Quaternions
 use Rattle.so3.specs.Elements as Elements
@@ -14,4 +13,4 @@ returns c = rw (
 ) (unfold Elements.act Elements.unitQuaternion Quaternions.rotate Law.act in refl)
 
 pub act-spec : {M : Type 1} → statement M
-act-spec = tie.close (tie.spec (λ c κs. search needs) (λ c κs. search needs) returns)
+act-spec = tie.close (tie.spec _ _ returns)

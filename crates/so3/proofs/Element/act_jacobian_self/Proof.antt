@@ -1,6 +1,5 @@
 -- `so3::Element::act_jacobian_self` meets its contract. Assumes nothing.
 use mathlib.Core.Path.{refl}
-use borrow.Author.Needs.{needs}
 use Rattle.law.specs.Rotation as Law
 use Rattle.linear.specs.Matrices as Matrices
 use Rattle.so3.specs.Elements as Elements
@@ -16,4 +15,4 @@ returns c = rw (
 ) (unfold Elements.actJacobianSelf Elements.rotationMatrix Matrices.neg Matrices.hat Matrices.mul Law.actJacobianSelf in refl)
 
 pub act-jacobian-self-spec : {M : Type 1} → statement M
-act-jacobian-self-spec = tie.close (tie.spec (λ c κs. search needs) (λ c κs. search needs) (λ c κs. search needs) (λ c κs. search needs) returns)
+act-jacobian-self-spec = tie.close (tie.spec _ _ _ _ returns)

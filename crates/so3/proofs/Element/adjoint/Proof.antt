@@ -1,6 +1,5 @@
 -- `so3::Element::adjoint` meets its contract. Assumes nothing.
 use mathlib.Core.Path.{refl}
-use borrow.Author.Needs.{needs}
 use Rattle.law.specs.Rotation as Law
 use Rattle.so3.specs.Elements as Elements
 use Rattle.so3.proofs.Element.adjoint.Statement.{statement}
@@ -10,4 +9,4 @@ returns : tie.Need-returns
 returns c = rw (c .rotation-matrix .ensures) (unfold Elements.adjoint Elements.rotationMatrix Law.adjoint in refl)
 
 pub adjoint-spec : {M : Type 1} → statement M
-adjoint-spec = tie.close (tie.spec (λ c κs. search needs) returns)
+adjoint-spec = tie.close (tie.spec _ returns)

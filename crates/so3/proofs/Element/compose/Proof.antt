@@ -1,6 +1,5 @@
 -- `so3::Element::compose` meets its contract. Assumes nothing.
 use mathlib.Core.Path.{refl}
-use borrow.Author.Needs.{needs}
 use Rattle.law.specs.Rotation as Law
 use Rattle.linear.specs.Quaternions as Quaternions
 use Rattle.so3.specs.Elements as Elements
@@ -15,4 +14,4 @@ returns c = rw (
 ) (unfold Elements.compose Elements.unitQuaternion Quaternions.mul Law.compose in refl)
 
 pub compose-spec : {M : Type 1} → statement M
-compose-spec = tie.close (tie.spec (λ c κs. search needs) (λ c κs. search needs) (λ c κs. search needs) returns)
+compose-spec = tie.close (tie.spec _ _ _ returns)

@@ -1,6 +1,5 @@
 -- `so3::Element::compose_jacobian_self` meets its contract. Assumes nothing.
 use mathlib.Core.Path.{refl}
-use borrow.Author.Needs.{needs}
 use Rattle.law.specs.Rotation as Law
 use Rattle.so3.specs.Elements as Elements
 use Rattle.so3.proofs.Element.compose_jacobian_self.Statement.{statement}
@@ -13,4 +12,4 @@ returns c = rw (
 ) (unfold Elements.composeJacobianSelf Elements.inverse Elements.adjoint Law.composeJacobianSelf in refl)
 
 pub compose-jacobian-self-spec : {M : Type 1} → statement M
-compose-jacobian-self-spec = tie.close (tie.spec (λ c κs. search needs) (λ c κs. search needs) returns)
+compose-jacobian-self-spec = tie.close (tie.spec _ _ returns)

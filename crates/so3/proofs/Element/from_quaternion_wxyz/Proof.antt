@@ -1,6 +1,5 @@
 -- `so3::Element::from_quaternion_wxyz` meets its contract. Assumes nothing.
 use mathlib.Core.Path.{refl}
-use borrow.Author.Needs.{needs}
 use Rattle.law.specs.Rotation as Law
 use Rattle.linear.specs.Quaternions as Quaternions
 use Rattle.so3.specs.Elements as Elements
@@ -11,4 +10,4 @@ returns : tie.Need-returns
 returns c = rw (c .normalize .ensures) (unfold Elements.fromQuaternionWxyz Quaternions.normalize Law.unitQuaternion in refl)
 
 pub from-quaternion-wxyz-spec : {M : Type 1} → statement M
-from-quaternion-wxyz-spec = tie.close (tie.spec (λ c κs. search needs) returns)
+from-quaternion-wxyz-spec = tie.close (tie.spec _ returns)

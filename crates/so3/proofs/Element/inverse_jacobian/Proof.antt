@@ -1,6 +1,5 @@
 -- `so3::Element::inverse_jacobian` meets its contract. Assumes nothing.
 use mathlib.Core.Path.{refl}
-use borrow.Author.Needs.{needs}
 use Rattle.law.specs.Rotation as Law
 use Rattle.linear.specs.Matrices as Matrices
 use Rattle.so3.specs.Elements as Elements
@@ -14,4 +13,4 @@ returns c = rw (
 ) (unfold Elements.inverseJacobian Elements.adjoint Matrices.neg Law.inverseJacobian in refl)
 
 pub inverse-jacobian-spec : {M : Type 1} → statement M
-inverse-jacobian-spec = tie.close (tie.spec (λ c κs. search needs) (λ c κs. search needs) returns)
+inverse-jacobian-spec = tie.close (tie.spec _ _ returns)

@@ -1,5 +1,4 @@
 -- `so3::Element::is_valid` meets its contract. Assumes nothing.
-use borrow.Author.Needs.{needs}
 use borrow.Author.Tests.{not-true, not-false}
 use Rattle.checks.specs.Checks as Checks
 use Rattle.so3.specs.Elements as Elements
@@ -22,5 +21,4 @@ returns-2 c =
     )
 
 pub is-valid-spec : {M : Type 1} → statement M
-is-valid-spec =
-    tie.close (tie.spec (λ c κs. search needs) returns (λ c κs. search needs) (λ c κs. search needs) returns-2)
+is-valid-spec = tie.close (tie.spec _ returns _ _ returns-2)

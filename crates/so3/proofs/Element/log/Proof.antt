@@ -1,6 +1,5 @@
 -- `so3::Element::log` meets its contract. Assumes nothing.
 use mathlib.Core.Path.{refl}
-use borrow.Author.Needs.{needs}
 use Rattle.law.specs.Series as Series
 use Rattle.linear.specs.Vectors as Vectors
 use Rattle.linear.specs.Quaternions as Quaternions
@@ -17,4 +16,4 @@ returns c = rw (
 ) (unfold Elements.log Elements.unitQuaternion Quaternions.vector Vectors.scale Series.logBy in refl)
 
 pub log-spec : {M : Type 1} → statement M
-log-spec = tie.close (tie.spec (λ c κs. search needs) (λ c κs. search needs) (λ c κs. search needs) (λ c κs. search needs) returns)
+log-spec = tie.close (tie.spec _ _ _ _ returns)

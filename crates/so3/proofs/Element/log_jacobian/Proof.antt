@@ -1,6 +1,5 @@
 -- `so3::Element::log_jacobian` meets its contract. Assumes nothing.
 use mathlib.Core.Path.{refl}
-use borrow.Author.Needs.{needs}
 use Rattle.so3.specs.Elements as Elements
 use Rattle.so3.specs.Tangents as Tangents
 use Rattle.so3.proofs.Element.log_jacobian.Statement.{statement}
@@ -13,4 +12,4 @@ returns c = rw (
 ) (unfold Elements.logJacobian Tangents.rightJacobianInv in refl)
 
 pub log-jacobian-spec : {M : Type 1} → statement M
-log-jacobian-spec = tie.close (tie.spec (λ c κs. search needs) (λ c κs. search needs) returns)
+log-jacobian-spec = tie.close (tie.spec _ _ returns)

@@ -1,6 +1,5 @@
 -- `so3::Element::normalize` meets its contract. Assumes nothing.
 use mathlib.Core.Path.{refl}
-use borrow.Author.Needs.{needs}
 use Rattle.law.specs.Rotation as Law
 use Rattle.linear.specs.Quaternions as Quaternions
 use Rattle.so3.specs.Elements as Elements
@@ -14,4 +13,4 @@ returns c = rw (
 ) (unfold Elements.normalize Quaternions.normalize Law.normalize Law.unitQuaternion in refl)
 
 pub normalize-spec : {M : Type 1} → statement M
-normalize-spec = tie.close (tie.spec (λ c κs. search needs) (λ c κs. search needs) returns)
+normalize-spec = tie.close (tie.spec _ _ returns)

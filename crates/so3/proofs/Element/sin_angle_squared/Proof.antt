@@ -1,6 +1,5 @@
 -- `so3::Element::sin_angle_squared` meets its contract. Assumes nothing.
 use mathlib.Core.Path.{refl}
-use borrow.Author.Needs.{needs}
 use Rattle.linear.specs.Vectors as Vectors
 use Rattle.linear.specs.Quaternions as Quaternions
 use Rattle.so3.specs.Elements as Elements
@@ -15,4 +14,4 @@ returns c = rw (
 ) (unfold Elements.sinAngleSquared Elements.unitQuaternion Quaternions.vector Vectors.normSquared in refl)
 
 pub sin-angle-squared-spec : {M : Type 1} → statement M
-sin-angle-squared-spec = tie.close (tie.spec (λ c κs. search needs) (λ c κs. search needs) (λ c κs. search needs) returns)
+sin-angle-squared-spec = tie.close (tie.spec _ _ _ returns)

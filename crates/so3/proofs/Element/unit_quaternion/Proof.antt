@@ -1,6 +1,5 @@
 -- `so3::Element::unit_quaternion` meets its contract. Assumes nothing.
 use mathlib.Core.Path.{refl}
-use borrow.Author.Needs.{needs}
 use Rattle.law.specs.Rotation as Law
 use Rattle.linear.specs.Quaternions as Quaternions
 use Rattle.so3.specs.Elements as Elements
@@ -11,4 +10,4 @@ returns : tie.Need-returns
 returns c = rw (c .normalize .ensures) (unfold Elements.unitQuaternion Quaternions.normalize Law.unitQuaternion in refl)
 
 pub unit-quaternion-spec : {M : Type 1} → statement M
-unit-quaternion-spec = tie.close (tie.spec (λ c κs. search needs) returns)
+unit-quaternion-spec = tie.close (tie.spec _ returns)

@@ -1,6 +1,5 @@
 -- `so3::Tangent::exp` meets its contract. Assumes nothing.
 use mathlib.Core.Path.{refl}
-use borrow.Author.Needs.{needs}
 use Rattle.law.specs.Rotation as Law
 use Rattle.law.specs.Series as Series
 use Rattle.linear.specs.Quaternions as Quaternions
@@ -12,4 +11,4 @@ returns : tie.Need-returns
 returns c = rw (c .normalize .ensures) (unfold Tangents.exp Quaternions.normalize Series.exp Law.unitQuaternion in refl)
 
 pub exp-spec : {M : Type 1} → statement M
-exp-spec = tie.close (tie.spec (λ c κs. search needs) returns)
+exp-spec = tie.close (tie.spec _ returns)

@@ -1,6 +1,5 @@
 -- `so3::Tangent::hat` meets its contract. Assumes nothing.
 use mathlib.Core.Path.{refl}
-use borrow.Author.Needs.{needs}
 use Rattle.linear.specs.Matrices as Matrices
 use Rattle.so3.specs.Tangents as Tangents
 use Rattle.so3.proofs.Tangent.hat.Statement.{statement}
@@ -10,4 +9,4 @@ returns : tie.Need-returns
 returns c = rw (c .hat .ensures) (unfold Tangents.hat Matrices.hat in refl)
 
 pub hat-spec : {M : Type 1} → statement M
-hat-spec = tie.close (tie.spec (λ c κs. search needs) returns)
+hat-spec = tie.close (tie.spec _ returns)

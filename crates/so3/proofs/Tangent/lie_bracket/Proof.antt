@@ -1,6 +1,5 @@
 -- `so3::Tangent::lie_bracket` meets its contract. Assumes nothing.
 use mathlib.Core.Path.{refl}
-use borrow.Author.Needs.{needs}
 use Rattle.law.specs.Rotation as Law
 use Rattle.linear.specs.Matrices as Matrices
 use Rattle.so3.specs.Tangents as Tangents
@@ -14,4 +13,4 @@ returns c = rw (
 ) (unfold Tangents.lieBracket Tangents.smallAdj Tangents.hat Matrices.apply Law.lieBracket in refl)
 
 pub lie-bracket-spec : {M : Type 1} → statement M
-lie-bracket-spec = tie.close (tie.spec (λ c κs. search needs) (λ c κs. search needs) returns)
+lie-bracket-spec = tie.close (tie.spec _ _ returns)

@@ -1,5 +1,4 @@
 -- `so3::Tangent::normalize` meets its contract. Assumes nothing.
-use borrow.Author.Needs.{needs}
 use Rattle.linear.specs.Vectors as Vectors
 use Rattle.so3.specs.Tangents as Tangents
 use Rattle.so3.proofs.Tangent.normalize.Statement.{statement}
@@ -23,5 +22,4 @@ returns-2 c =
     )
 
 pub normalize-spec : {M : Type 1} → statement M
-normalize-spec =
-    tie.close (tie.spec (λ c κs. search needs) (λ c κs. search needs) returns returns-2)
+normalize-spec = tie.close (tie.spec _ _ returns returns-2)

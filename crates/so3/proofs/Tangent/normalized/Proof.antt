@@ -1,5 +1,4 @@
 -- `so3::Tangent::normalized` meets its contract. Assumes nothing.
-use borrow.Author.Needs.{needs}
 use Rattle.linear.specs.Vectors as Vectors
 use Rattle.so3.specs.Tangents as Tangents
 use Rattle.so3.proofs.Tangent.normalized.Statement.{statement}
@@ -24,5 +23,4 @@ returns-2 c =
     )
 
 pub normalized-spec : {M : Type 1} → statement M
-normalized-spec =
-    tie.close (tie.spec (λ c κs. search needs) (λ c κs. search needs) (λ c κs. search needs) returns returns-2)
+normalized-spec = tie.close (tie.spec _ _ _ returns returns-2)

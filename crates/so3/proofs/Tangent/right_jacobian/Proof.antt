@@ -1,6 +1,5 @@
 -- `so3::Tangent::right_jacobian` meets its contract. Assumes nothing.
 use mathlib.Core.Path.{refl}
-use borrow.Author.Needs.{needs}
 use Rattle.law.specs.Series as Series
 use Rattle.linear.specs.Matrices as Matrices
 use Rattle.so3.specs.Tangents as Tangents
@@ -14,4 +13,4 @@ returns c = rw (
 ) (unfold Tangents.rightJacobian Tangents.leftJacobian Matrices.transpose Series.rightJacobian in refl)
 
 pub right-jacobian-spec : {M : Type 1} → statement M
-right-jacobian-spec = tie.close (tie.spec (λ c κs. search needs) (λ c κs. search needs) returns)
+right-jacobian-spec = tie.close (tie.spec _ _ returns)

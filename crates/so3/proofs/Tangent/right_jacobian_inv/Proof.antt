@@ -1,6 +1,5 @@
 -- `so3::Tangent::right_jacobian_inv` meets its contract. Assumes nothing.
 use mathlib.Core.Path.{refl}
-use borrow.Author.Needs.{needs}
 use Rattle.law.specs.Series as Series
 use Rattle.linear.specs.Matrices as Matrices
 use Rattle.so3.specs.Tangents as Tangents
@@ -14,4 +13,4 @@ returns c = rw (
 ) (unfold Tangents.rightJacobianInv Tangents.leftJacobianInv Matrices.transpose Series.rightJacobianInv in refl)
 
 pub right-jacobian-inv-spec : {M : Type 1} → statement M
-right-jacobian-inv-spec = tie.close (tie.spec (λ c κs. search needs) (λ c κs. search needs) returns)
+right-jacobian-inv-spec = tie.close (tie.spec _ _ returns)

@@ -5,8 +5,7 @@
 //! or so many seconds, whichever comes first. At the first difference both outcomes are printed in full.
 //! Exit status: 0, no difference; 1, a difference, or PROGRAM ended early or wrote too much; 2, a wrong command.
 
-use compare::{Counts, describe_outcome, describe_request};
-use requests::generators::Generator;
+use compare::{Counts, Drawn, describe_outcome, describe_request};
 use requests::{Outcome, Request};
 use std::io::{BufReader, ErrorKind, Read, Write};
 use std::process::{ChildStdin, Command, ExitCode, Stdio};
@@ -122,8 +121,7 @@ fn run(arguments: &Arguments) -> Result<String, String> {
     ))
 }
 
-/// Draws requests, asks the reference, hands both on and writes the requests to the program. The reference's answers are
-/// taken up as later inputs, so that the requests depend on the seed alone.
+/// Draws requests, asks the reference, hands both on and writes the requests to the program.
 fn write_requests(
     seed: u64,
     count: u64,
@@ -131,18 +129,15 @@ fn write_requests(
     mut to: ChildStdin,
     sender: Sender<Arc<Batch>>,
 ) {
-    let mut generator = Generator::new(seed);
-    let (mut request, mut outcome) = (Request::default(), Outcome::default());
-    let mut drawn = 0;
-    while drawn < count && end.is_none_or(|end| Instant::now() < end) {
+    let mut drawn = Drawn::new(seed);
+    let mut written = 0;
+    while written < count && end.is_none_or(|end| Instant::now() < end) {
         let mut batch = Batch::default();
-        for _ in 0..BATCH.min(count - drawn) {
-            generator.draw(&mut request);
-            answers::answer(&request, &mut outcome);
-            generator.learn(request.call(), &outcome);
-            request.write(&mut batch.requests);
-            outcome.write(&mut batch.outcomes);
-            drawn += 1;
+        for _ in 0..BATCH.min(count - written) {
+            drawn.draw();
+            drawn.request.write(&mut batch.requests);
+            drawn.outcome.write(&mut batch.outcomes);
+            written += 1;
         }
         let batch = Arc::new(batch);
         // Either fails only where the comparison has ended already.
