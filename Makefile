@@ -33,6 +33,10 @@ ifndef TMPDIR
 export TMPDIR := $(shell $(IN_MEMORY) && echo /dev/shm || echo /tmp)
 endif
 
+# rt starts so many checks, waits for all of them and starts the next: with more of them than processors, these idle less.
+RT_JOBS ?= 6
+export RT_JOBS
+
 # A part that wants a tool which is missing says so, and fails in CI.
 WITHOUT = { echo "NOT RUN: $@: there is no $(1) here"; [ "$$CI" != true ]; }
 # What rt prints is shown only where it fails.
@@ -46,7 +50,7 @@ WITH_SOURCE = if ! [ -d "$$APEX_SRC" ]; then $(call WITHOUT,Rust source (APEX_SR
 
 .PHONY: run test test-built try try-programs try-requests toolchain-check format-check lib test-rust test-c vectors-check cases-check sample-check \
 	test-reference compare compare-sqrt compare-calls compare-entries valgrind-entries conformance bench bench-sqrt \
-	bench-handset requests-lib vectors cases sample float-lib
+	bench-handset sgal3-lib vectors cases sample float-lib
 .NOTPARALLEL:
 
 run:
@@ -154,12 +158,12 @@ bench: bench-sqrt bench-handset
 bench-sqrt: float-lib
 	@$(CARGO) run --release $(FLOAT) --bin sqrt_bench
 
-bench-handset: lib requests-lib
+bench-handset: lib sgal3-lib
 	@$(CARGO) run --release --target-dir target/cargo --manifest-path rust/bench/Cargo.toml
 
-requests-lib:
-	@$(call QUIETLY,rt check requests)
-	@$(call QUIETLY,rt staticlib requests_export)
+sgal3-lib:
+	@$(call QUIETLY,rt check outcomes sgal3_blocks sgal3_matrix_blocks)
+	@$(call QUIETLY,rt staticlib sgal3_export)
 
 vectors:
 	@$(CARGO) run --release $(FLOAT) --bin sqrt_vectors > $(VECTORS)

@@ -7,7 +7,7 @@
 #include <stdlib.h>
 #include <string.h>
 
-enum { BYTES = HANDSET_ELEMENT_BYTES, FILL = 0xA5, TIME = 10 };
+enum { BYTES = HANDSET_ELEMENT_BYTES, FILL = 0xa5, TIME = 10 };
 
 typedef struct {
     double values[11];
@@ -181,8 +181,8 @@ static void length(void) {
 }
 
 static void not_finite(void) {
-    static const uint64_t patterns[] = {0x7FF0000000000000, 0x7FF0000000000001, 0x7FF7FFFFFFFFFFFF,
-                                        0x7FF8000000000000, 0x7FFFFFFFFFFFFFFF};
+    static const uint64_t patterns[] = {0x7ff0000000000000, 0x7ff0000000000001, 0x7ff7ffffffffffff,
+                                        0x7ff8000000000000, 0x7fffffffffffffff};
     const uint64_t sign = (uint64_t)1 << 63;
     uint8_t block[BYTES];
     size_t i;
@@ -242,7 +242,7 @@ static void order(void) {
     put(third, with(3, 2));
     put(fourth, A);
     CHECK(chain_refused(blocks, sizeof blocks, BYTES) == HANDSET_NOT_UNIT);
-    put_pattern(fourth + 8 * TIME, 0x7FF8000000000000);
+    put_pattern(fourth + 8 * TIME, 0x7ff8000000000000);
     CHECK(chain_refused(blocks, sizeof blocks, BYTES) == HANDSET_NOT_FINITE);
     CHECK(chain_refused(blocks, sizeof blocks - 1, BYTES) == HANDSET_LENGTH);
     CHECK(chain_refused(blocks, sizeof blocks, BYTES - 1) == HANDSET_LENGTH);
@@ -290,7 +290,7 @@ static void set_17_keeps_its_slot(void) {
         if (i == STEPS / 2) {
             memcpy(before, set_17, BYTES);
             memcpy(bad, step, BYTES);
-            put_pattern(bad + 8 * TIME, 0x7FF8000000000000);
+            put_pattern(bad + 8 * TIME, 0x7ff8000000000000);
             CHECK(take(set_17, bad) == HANDSET_NOT_FINITE);
             CHECK(memcmp(set_17, before, BYTES) == 0);
         }

@@ -1,7 +1,7 @@
-// Links the static library of the crate requests_export, for exp, log and adjoint: in target/staticlib of the repository.
+// Links the static library of the crate sgal3_export, for exp, log and adjoint: in target/staticlib of the repository.
 fn main() {
     let folder = concat!(env!("CARGO_MANIFEST_DIR"), "/../../target/staticlib");
     println!("cargo:rustc-link-search=native={folder}");
-    println!("cargo:rustc-link-lib=static=requests_export");
-    println!("cargo:rerun-if-changed={folder}/librequests_export.a");
+    println!("cargo:rustc-link-lib=static=sgal3_export");
+    println!("cargo:rerun-if-changed={folder}/libsgal3_export.a");
 }

@@ -1,4 +1,4 @@
--- All values of a list are finite: found out one at a time, and of each value and each part. Assumes nothing.
+-- All values of a list are finite: tested one at a time, and said of each value and each part. Assumes nothing.
 use Prim.Native.Nat.{ℕ, zero, suc, _+_, _≤_, _<_}
 use mathlib.Core.Path.{_≡_, refl}
 use mathlib.Core.Bool.{Bool, true, false, _&&_, false≢true}
@@ -11,17 +11,16 @@ use lib.Ieee.{Float, nan}
 use lib.Ieee.Scale.{finite}
 use Rattle.checks.specs.Checks.{allFinite}
 
-pub passes : (s : List Float) (i : ℕ) → i < length s → finite (getD s i nan) ≡ true → allFinite (drop i s) ≡ allFinite (drop (i + 1) s)
+-- the values before i decide, and those from i on
+pub tested : (b : Bool) (s : List Float) (i : ℕ) → i < length s → (b && allFinite (drop i s)) ≡ ((b && finite (getD s i nan)) && allFinite (drop (i + 1) s))
 unfolding allFinite
-passes s i h e = rw (add-one, drop-cons s i nan, e)
+tested true s i h = rw (add-one, drop-cons s i nan)
+tested false s i h = refl
 
-pub stops : (s : List Float) (i : ℕ) → i < length s → finite (getD s i nan) ≡ false → allFinite (drop i s) ≡ false
+pub ended : (b : Bool) (s : List Float) (i : ℕ) → length s ≤ i → (b && allFinite (drop i s)) ≡ b
 unfolding allFinite
-stops s i h e = rw (drop-cons s i nan, e)
-
-pub ends : (s : List Float) (i : ℕ) → length s ≤ i → allFinite (drop i s) ≡ true
-unfolding allFinite
-ends s i h = rw (drop-of-length-le s h)
+ended true s i h = rw (drop-of-length-le s h)
+ended false s i h = refl
 
 -- ---- what it says of a value and of a part
 pub both : (a b : Bool) → (a && b) ≡ true → (a ≡ true) × (b ≡ true)

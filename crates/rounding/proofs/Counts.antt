@@ -154,6 +154,19 @@ module _ (A B C a b L : ℕ) (P : 0 < C) (Q : 0 < L) (p : A * L ≡ a * C) (q : 
       go false = apart
 
 -- ---- each operation is one rounding of its operands' counts
+-- what holds of finite values holds of numbers
+pub of-finite : (P : Float → Float → Type 0)
+    → ((s : Bool) (m : ℕ) (e : ℤ) (t : Bool) (n : ℕ) (d : ℤ) → T (fits binary64 (fin s m e)) → T (fits binary64 (fin t n d)) → P (fin s m e) (fin t n d))
+    → {x y : Float} → Number x → Number y → P x y
+of-finite P h {x} {y} X Y = go x y X Y
+  where
+    go : (x y : Float) → Number x → Number y → P x y
+    go nan y X Y = absurd (X .isFinite)
+    go (inf s) y X Y = absurd (X .isFinite)
+    go (fin s m e) nan X Y = absurd (Y .isFinite)
+    go (fin s m e) (inf t) X Y = absurd (Y .isFinite)
+    go (fin s m e) (fin t n d) X Y = h s m e t n d (X .isBinary64) (Y .isBinary64)
+
 across : (x l a g h : ℕ) → x * l ≡ a * g → x * h * l ≡ a * (g * h)
 across x l a g h e = mul-right-comm x h l ∙ ap (λ (v : ℕ). v * h) e ∙ mul-assoc a g h
 
@@ -166,50 +179,37 @@ right-count s m e d t = left-count s m e d t ∙ ap (λ (v : ℕ). m * 2 ^ shift
 
 pub add-is : {x y : Float} → Number x → Number y → add binary64 x y ≡ sum binary64 (negative x) (count x) (negative y) (count y) (2 ^ 1074)
 unfolding add count negative
-add-is {x} {y} X Y = go x y X Y
-  where
-    go : (x y : Float) → Number x → Number y → add binary64 x y ≡ sum binary64 (negative x) (count x) (negative y) (count y) (2 ^ 1074)
-    go nan y X Y = absurd (X .isFinite)
-    go (inf s) y X Y = absurd (X .isFinite)
-    go (fin s m e) nan X Y = absurd (Y .isFinite)
-    go (fin s m e) (inf t) X Y = absurd (Y .isFinite)
-    go (fin s m e) (fin t n d) X Y =
-        sum-same (m * up e * down d) (n * up d * down e) (down e * down d) (m * 2 ^ shift e) (n * 2 ^ shift d) (2 ^ 1074) (mul-pos (down-pos e) (down-pos d)) (pow-pos 1074)
-        (left-count s m e d (X .isBinary64)) (right-count t n d e (Y .isBinary64))
-        s t
+add-is =
+    of-finite (λ x y. add binary64 x y ≡ sum binary64 (negative x) (count x) (negative y) (count y) (2 ^ 1074))
+    (λ s m e t n d u v.
+    sum-same (m * up e * down d) (n * up d * down e) (down e * down d) (m * 2 ^ shift e) (n * 2 ^ shift d) (2 ^ 1074) (mul-pos (down-pos e) (down-pos d)) (pow-pos 1074)
+    (left-count s m e d u) (right-count t n d e v)
+    s t)
 
 pub mul-is : {x y : Float} → Number x → Number y → mul binary64 x y ≡ round binary64 (unlike (negative x) (negative y)) (count x * count y) (2 ^ 2148)
 unfolding mul count negative
-mul-is {x} {y} X Y = go x y X Y
+mul-is =
+    of-finite (λ x y. mul binary64 x y ≡ round binary64 (unlike (negative x) (negative y)) (count x * count y) (2 ^ 2148))
+    (λ s m e t n d u v.
+    round-same binary64 (unlike s t) (m * up e * (n * up d)) (down e * down d) (m * 2 ^ shift e * (n * 2 ^ shift d)) (2 ^ 2148) (mul-pos (down-pos e) (down-pos d)) (pow-pos 2148)
+    (both (m * up e) (n * up d) (2 ^ 1074) (m * 2 ^ shift e) (n * 2 ^ shift d) (down e) (down d) (fraction s m e u) (fraction t n d v)))
   where
     both : (p q l a b g h : ℕ) → p * l ≡ a * g → q * l ≡ b * h → p * q * (l * l) ≡ a * b * (g * h)
     both p q l a b g h e f = mul-mul-mul-comm p q l l ∙ ap (λ (x : ℕ). x * (q * l)) e ∙ ap (λ (x : ℕ). a * g * x) f ∙ mul-mul-mul-comm a g b h
 
-    go : (x y : Float) → Number x → Number y → mul binary64 x y ≡ round binary64 (unlike (negative x) (negative y)) (count x * count y) (2 ^ 2148)
-    go nan y X Y = absurd (X .isFinite)
-    go (inf s) y X Y = absurd (X .isFinite)
-    go (fin s m e) nan X Y = absurd (Y .isFinite)
-    go (fin s m e) (inf t) X Y = absurd (Y .isFinite)
-    go (fin s m e) (fin t n d) X Y =
-        round-same binary64 (unlike s t) (m * up e * (n * up d)) (down e * down d) (m * 2 ^ shift e * (n * 2 ^ shift d)) (2 ^ 2148) (mul-pos (down-pos e) (down-pos d)) (pow-pos 2148)
-        (both (m * up e) (n * up d) (2 ^ 1074) (m * 2 ^ shift e) (n * 2 ^ shift d) (down e) (down d) (fraction s m e (X .isBinary64)) (fraction t n d (Y .isBinary64)))
-
 pub div-is : {x y : Float} → Number x → Number y → 0 < count y → div binary64 x y ≡ round binary64 (unlike (negative x) (negative y)) (count x) (count y)
 unfolding div count negative
-div-is {x} {y} X Y P = go x y X Y P
+div-is = of-finite (λ x y. 0 < count y → div binary64 x y ≡ round binary64 (unlike (negative x) (negative y)) (count x) (count y)) go
   where
     ratio : (p q l a b g h : ℕ) → 0 < l → p * l ≡ a * g → q * l ≡ b * h → p * h * b ≡ a * (q * g)
     ratio p q l a b g h P e f =
         eq-of-mul-eq-mul-right l P (p * h * b) (a * (q * g))
         (omega (arith, ap (λ (x : ℕ). x * (h * b)) e, ap (λ (x : ℕ). x * (a * g)) f))
 
-    go : (x y : Float) → Number x → Number y → 0 < count y → div binary64 x y ≡ round binary64 (unlike (negative x) (negative y)) (count x) (count y)
-    go nan y X Y P = absurd (X .isFinite)
-    go (inf s) y X Y P = absurd (X .isFinite)
-    go (fin s m e) nan X Y P = absurd (Y .isFinite)
-    go (fin s m e) (inf t) X Y P = absurd (Y .isFinite)
-    go (fin s m e) (fin t zero d) X Y P = absurd (lt-irrefl 0 (subst (λ (z : ℕ). 0 < z) (zero-mul (2 ^ shift d)) P))
-    go (fin s m e) (fin t (suc n) d) X Y P =
+    go : (s : Bool) (m : ℕ) (e : ℤ) (t : Bool) (n : ℕ) (d : ℤ) → T (fits binary64 (fin s m e)) → T (fits binary64 (fin t n d))
+        → 0 < n * 2 ^ shift d → div binary64 (fin s m e) (fin t n d) ≡ round binary64 (unlike s t) (m * 2 ^ shift e) (n * 2 ^ shift d)
+    go s m e t zero d u v P = absurd (lt-irrefl 0 (subst (λ (z : ℕ). 0 < z) (zero-mul (2 ^ shift d)) P))
+    go s m e t (suc n) d u v P =
         ap (λ (b : Bool). cond b (cond (eqb m 0) nan (inf (unlike s t))) (round binary64 (unlike s t) (m * up e * down d) (suc n * up d * down e))) (eqb·suc-zero n)
         ∙ round-same binary64 (unlike s t) (m * up e * down d) (suc n * up d * down e) (m * 2 ^ shift e) (suc n * 2 ^ shift d) (mul-pos (mul-pos (zero-lt-suc n) (up-pos d)) (down-pos e)) P
-        (ratio (m * up e) (suc n * up d) (2 ^ 1074) (m * 2 ^ shift e) (suc n * 2 ^ shift d) (down e) (down d) (pow-pos 1074) (fraction s m e (X .isBinary64)) (fraction t (suc n) d (Y .isBinary64)))
+        (ratio (m * up e) (suc n * up d) (2 ^ 1074) (m * 2 ^ shift e) (suc n * 2 ^ shift d) (down e) (down d) (pow-pos 1074) (fraction s m e u) (fraction t (suc n) d v))

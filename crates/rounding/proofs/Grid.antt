@@ -4,7 +4,7 @@ use mathlib.Core.Path.{_≡_, refl, sym, ap, _∙_, subst}
 use mathlib.Core.Logic.{_⊎_, inl, inr}
 use mathlib.Core.Bool.{not}
 use Prim.Native.Nat.{ℕ, zero, suc, _+_, _-_, _*_, _/_, _%_, _^_, _≤_, _<_, compare, Ordering, Ordering·lt, Ordering·eq, Ordering·gt}
-use native.Mathlib.Nat.{le-trans, le-of-eq, le-of-lt, lt-of-lt-of-le, lt-of-not-le, eq-zero-or-pos, mul-comm, mul-assoc, suc-mul, mul-le-mul-left, mul-le-mul-right, mul-lt-mul-of-pos-right, mod-lt, div-add-mod', le-div-iff-mul-le, pow-suc}
+use native.Mathlib.Nat.{le-trans, le-of-eq, le-of-lt, lt-of-lt-of-le, lt-of-not-le, eq-zero-or-pos, mul-comm, mul-assoc, suc-mul, mul-zero, zero-lt-suc, mul-le-mul-left, mul-le-mul-right, mul-lt-mul-of-pos-right, mod-lt, div-add-mod', le-div-iff-mul-le, pow-suc}
 use native.Mathlib.Decide.{decLe}
 use native.Mathlib.Omega.{arith}
 use lib.Dec.{T, isLe, isEq, leb→le, nleb→lt, eqb→eq}
@@ -66,7 +66,7 @@ nearer u v r w z c e l (inr h) (inl k) = omega arith
 nearer u v r w z c e l (inr h) (inr k) = omega arith
 
 -- ---- where digits are dropped, w / 2 ^ k has p of them
-all-in-use : (z p : ℕ) → 0 < p → 0 < z - p → p - 1 + (z - p) < z
+pub all-in-use : (z p : ℕ) → 0 < p → 0 < z - p → p - 1 + (z - p) < z
 all-in-use z p P h = omega arith
 
 full : (p w : ℕ) → 0 < p → 0 < cut p w → 2 ^ (p - 1) * 2 ^ cut p w ≤ w
@@ -82,7 +82,7 @@ rnd-off p w P =
     let d = dist (rnd p w) w in
     let h : d * 2 ≤ u = half u (w / u * u) (w % u) w (rnd p w) (div-add-mod' w u) (mod-lt w (pow-pos (cut p w))) (spot w u) in
     elim (eq-zero-or-pos (cut p w)) [
-      | inl e ↦ subst (λ (x : ℕ). 2 ^ p * x ≤ w) (sym (none d u (ap (λ (x : ℕ). 2 ^ x) e) h)) (omega (arith, native.Mathlib.Nat.mul-zero (2 ^ p)))
+      | inl e ↦ subst (λ (x : ℕ). 2 ^ p * x ≤ w) (sym (none d u (ap (λ (x : ℕ). 2 ^ x) e) h)) (omega (arith, mul-zero (2 ^ p)))
       | inr K ↦ le-trans (le-of-eq (split p d P)) (le-trans (mul-le-mul-left (2 ^ (p - 1)) h) (full p w P K))
     ]
   where
@@ -97,11 +97,8 @@ room : (p j k : ℕ) → 0 < p → j < k → p + j ≤ p - 1 + k
 room p j k P h = omega arith
 
 apart : (p w q j : ℕ) → 0 < p → q < 2 ^ p → (q * 2 ^ j ≤ w / 2 ^ cut p w * 2 ^ cut p w) ⊎ (w / 2 ^ cut p w * 2 ^ cut p w + 2 ^ cut p w ≤ q * 2 ^ j)
-apart p w q j P Q = go (decLe k j)
+apart p w q j P Q = go (decLe (cut p w) j)
   where
-    k : ℕ
-    k = cut p w
-
     go : Dec (cut p w ≤ j) → (q * 2 ^ j ≤ w / 2 ^ cut p w * 2 ^ cut p w) ⊎ (w / 2 ^ cut p w * 2 ^ cut p w + 2 ^ cut p w ≤ q * 2 ^ j)
     go (yes h) =
         let u = 2 ^ cut p w in
@@ -112,11 +109,11 @@ apart p w q j P Q = go (decLe k j)
           | no n ↦ inr (le-trans (le-of-eq (sym (suc-mul (w / u) u))) (le-trans (mul-le-mul-right u (lt-of-not-le n)) (le-of-eq e)))
         ]
     go (no n) =
-        let k' = cut p w in
-        let u = 2 ^ k' in
-        let l : j < k' = lt-of-not-le n in
-        inl (le-trans (le-of-lt (lt-of-lt-of-le (mul-lt-mul-of-pos-right Q (pow-pos j)) (le-trans (le-of-eq (sym (pow-add 2 p j))) (le-trans (pow-mono (room p j k' P l)) (le-of-eq (pow-add 2 (p - 1) k'))))))
-        (mul-le-mul-right u (le-div-iff-mul-le (pow-pos k') .1 (full p w P (lt-of-lt-of-le (native.Mathlib.Nat.zero-lt-suc j) l)))))
+        let k = cut p w in
+        let u = 2 ^ k in
+        let l : j < k = lt-of-not-le n in
+        inl (le-trans (le-of-lt (lt-of-lt-of-le (mul-lt-mul-of-pos-right Q (pow-pos j)) (le-trans (le-of-eq (sym (pow-add 2 p j))) (le-trans (pow-mono (room p j k P l)) (le-of-eq (pow-add 2 (p - 1) k))))))
+        (mul-le-mul-right u (le-div-iff-mul-le (pow-pos k) .1 (full p w P (lt-of-lt-of-le (zero-lt-suc j) l)))))
 
 pub rnd-near : (p w q j : ℕ) → 0 < p → q < 2 ^ p → dist (rnd p w) w ≤ dist (q * 2 ^ j) w
 rnd-near p w q j P Q =

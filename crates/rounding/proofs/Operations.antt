@@ -15,7 +15,7 @@ use Rattle.rounding.specs.Number.{Number, one, limit, plusPart, minusPar
 use Rattle.rounding.specs.Error.{Within, RoundedSum}
 use Rattle.rounding.proofs.Integers.{dist, above, below, difference-self, difference-add, difference-less, difference-abs}
 use Rattle.rounding.proofs.Counts.{add-is, mul-is, div-is, parts-sum, plus-parts, minus-parts, exact-above, exact-below, neg-number, neg-count, neg-sign, neg-parts}
-use Rattle.rounding.proofs.Round.{rounded, rounded-error, round-counted, round-number}
+use Rattle.rounding.proofs.Round.{rounded, from-dist, rounded-error, round-counted, round-number}
 use Rattle.rounding.proofs.Sum.{add-error}
 
 pub one-pos : 0 < one
@@ -120,9 +120,6 @@ add-sign {x} {y} X Y p q t =
     plain : T (finite (sum binary64 false (count x) false (count y) (2 ^ 1074))) → negative (sum binary64 false (count x) false (count y) (2 ^ 1074)) ≡ false
     plain t = round-counted false (count x + count y) (2 ^ 1074) t .sign
 
-from-dist : (a b d c : ℕ) → 2 ^ 53 * dist a b ≤ d → d ≤ c → Within (2 ^ 53 * a) (2 ^ 53 * b) c
-from-dist a b d c h k = omega arith
-
 dist-le : (a b : ℕ) → dist a b ≤ a + b
 dist-le a b = omega arith
 
@@ -132,9 +129,8 @@ in-parts x y z h =
     let s = difference-add x y (above x) (below x) (above y) (below y) (difference-self x) (difference-self y) in
     let e = difference-abs (z -ℤ (x +ℤ y)) _ _ (difference-less z (x +ℤ y) (above z) (below z) (above x + above y) (below x + below y) (difference-self z) s) in
     let f = difference-abs (x +ℤ y) _ _ s in
-    from-dist (above z + (below x + below y)) (below z + (above x + above y)) (natAbs (x +ℤ y)) ((above x + above y) + (below x + below y))
-    (subst (λ (v : ℕ). 2 ^ 53 * v ≤ natAbs (x +ℤ y)) e h)
-    (le-trans (le-of-eq f) (dist-le (above x + above y) (below x + below y)))
+    from-dist (above z + (below x + below y)) (below z + (above x + above y)) ((above x + above y) + (below x + below y))
+    (le-trans (subst (λ (v : ℕ). 2 ^ 53 * v ≤ natAbs (x +ℤ y)) e h) (le-trans (le-of-eq f) (dist-le (above x + above y) (below x + below y))))
 
 pub add-parts : {x y : Float} → Number x → Number y → T (finite (add binary64 x y))
     → Within (2 ^ 53 * (plusPart (add binary64 x y) + (minusPart x + minusPart y))) (2 ^ 53 * (minusPart (add binary64 x y) + (plusPart x + plusPart y))) (count x + count y)

@@ -8,12 +8,12 @@ use native.Mathlib.Omega.{arith}
 use lib.Dec.{T, ltb, leb, eqb, ltb→lt, lt→ltb, leb→le, le→leb, eqb→eq}
 use lib.Arith.{le→nltb}
 use lib.Pow.{pow-pos}
-use lib.Ieee.{Float, nan, inf, fin, up, down, below, level, lt, le, eq}
+use lib.Ieee.{Float, up, down, below, level, lt, le, eq}
 use lib.Ieee.Bits.{is-false}
 use lib.Ieee.Fits.{down-pos, eq→eqb, and-i, and-l, and-r}
 use Rattle.float.specs.Exact.{shift, count, negative}
 use Rattle.rounding.specs.Number.{Number, plusPart, minusPart}
-use Rattle.rounding.proofs.Counts.{same-lt, left-count, right-count}
+use Rattle.rounding.proofs.Counts.{same-lt, of-finite, left-count, right-count}
 
 same : {p q : Bool} → (T p → T q) → (T q → T p) → p ≡ q
 same {p = true} {q = true} h k = refl
@@ -69,29 +69,19 @@ eq-unsigned true false a b = both a b (0 + 0) (b + a) (λ h k. omega arith) (λ 
 -- ---- of two numbers
 pub lt-is : {x y : Float} → Number x → Number y → lt x y ≡ ltb (plusPart x + minusPart y) (plusPart y + minusPart x)
 unfolding lt count negative plusPart minusPart
-lt-is {x} {y} X Y = go x y X Y
-  where
-    go : (x y : Float) → Number x → Number y → lt x y ≡ ltb (plusPart x + minusPart y) (plusPart y + minusPart x)
-    go nan y X Y = absurd (X .isFinite)
-    go (inf s) y X Y = absurd (X .isFinite)
-    go (fin s m e) nan X Y = absurd (Y .isFinite)
-    go (fin s m e) (inf t) X Y = absurd (Y .isFinite)
-    go (fin s m e) (fin t n d) X Y =
-        below-same (m * up e * down d) (n * up d * down e) (down e * down d) (m * 2 ^ shift e) (n * 2 ^ shift d) (2 ^ 1074) (mul-pos (down-pos e) (down-pos d)) (pow-pos 1074) (left-count s m e d (X .isBinary64)) (right-count t n d e (Y .isBinary64)) s t
-        ∙ lt-unsigned s t (m * 2 ^ shift e) (n * 2 ^ shift d)
+lt-is =
+    of-finite (λ x y. lt x y ≡ ltb (plusPart x + minusPart y) (plusPart y + minusPart x))
+    (λ s m e t n d u v.
+    below-same (m * up e * down d) (n * up d * down e) (down e * down d) (m * 2 ^ shift e) (n * 2 ^ shift d) (2 ^ 1074) (mul-pos (down-pos e) (down-pos d)) (pow-pos 1074) (left-count s m e d u) (right-count t n d e v) s t
+    ∙ lt-unsigned s t (m * 2 ^ shift e) (n * 2 ^ shift d))
 
 pub eq-is : {x y : Float} → Number x → Number y → eq x y ≡ eqb (plusPart x + minusPart y) (plusPart y + minusPart x)
 unfolding eq count negative plusPart minusPart
-eq-is {x} {y} X Y = go x y X Y
-  where
-    go : (x y : Float) → Number x → Number y → eq x y ≡ eqb (plusPart x + minusPart y) (plusPart y + minusPart x)
-    go nan y X Y = absurd (X .isFinite)
-    go (inf s) y X Y = absurd (X .isFinite)
-    go (fin s m e) nan X Y = absurd (Y .isFinite)
-    go (fin s m e) (inf t) X Y = absurd (Y .isFinite)
-    go (fin s m e) (fin t n d) X Y =
-        level-same (m * up e * down d) (n * up d * down e) (down e * down d) (m * 2 ^ shift e) (n * 2 ^ shift d) (2 ^ 1074) (mul-pos (down-pos e) (down-pos d)) (pow-pos 1074) (left-count s m e d (X .isBinary64)) (right-count t n d e (Y .isBinary64)) s t
-        ∙ eq-unsigned s t (m * 2 ^ shift e) (n * 2 ^ shift d)
+eq-is =
+    of-finite (λ x y. eq x y ≡ eqb (plusPart x + minusPart y) (plusPart y + minusPart x))
+    (λ s m e t n d u v.
+    level-same (m * up e * down d) (n * up d * down e) (down e * down d) (m * 2 ^ shift e) (n * 2 ^ shift d) (2 ^ 1074) (mul-pos (down-pos e) (down-pos d)) (pow-pos 1074) (left-count s m e d u) (right-count t n d e v) s t
+    ∙ eq-unsigned s t (m * 2 ^ shift e) (n * 2 ^ shift d))
 
 pub le-is : {x y : Float} → Number x → Number y → le x y ≡ leb (plusPart x + minusPart y) (plusPart y + minusPart x)
 unfolding le

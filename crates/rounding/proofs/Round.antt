@@ -6,7 +6,7 @@ use mathlib.Core.Bool.{Bool, true, false, cond}
 use Prim.Native.Nat.{ℕ, suc, _+_, _-_, _*_, _/_, _%_, _^_, _≤_, _<_}
 use native.Mathlib.Nat.{le-trans, le-of-eq, eq-zero-or-pos, mul-comm, mul-assoc, mul-one, mul-pos, mod-lt, div-add-mod', le-div-iff-mul-le, lt-of-mul-lt-mul-right, mul-le-mul-right}
 use native.Mathlib.Omega.{arith}
-use lib.Dec.{T, ltb, ltb→lt}
+use lib.Dec.{T, ltb, ltb→lt, lit<}
 use lib.Pow.{pow-add, pow-pos}
 use lib.Ieee.{Float, nan, inf, fin, Format, binary64, prec, emax, low, size, odd, units, round}
 use lib.Ieee.Digits.{size-reaches}
@@ -19,20 +19,17 @@ use Rattle.float.proofs.Counts.{Counted, counted}
 use Rattle.rounding.specs.Number.{Number, limit}
 use Rattle.rounding.specs.Error.{Within}
 use Rattle.rounding.proofs.Integers.{dist}
-use Rattle.rounding.proofs.Grid.{spot, half}
+use Rattle.rounding.proofs.Grid.{spot, half, all-in-use}
 
 -- n / den of counts, rounded
 abbrev pub rounded : ℕ → ℕ → ℕ
 rounded n den = kept 53 n den * 2 ^ drop 53 n den
 
-all-in-use : (z : ℕ) → 0 < z - 53 → 52 + (z - 53) < z
-all-in-use z h = omega arith
-
 -- where digits are dropped, 53 are kept
 full : (n den : ℕ) → 0 < den → 0 < drop 53 n den → 2 ^ 52 * 2 ^ drop 53 n den * den ≤ n
 full n den D K =
     let k = drop 53 n den in
-    le-div-iff-mul-le D .0 (le-trans (le-of-eq (sym (pow-add 2 52 k))) (size-reaches (n / den) (52 + k) (all-in-use (size (n / den)) K)))
+    le-div-iff-mul-le D .0 (le-trans (le-of-eq (sym (pow-add 2 52 k))) (size-reaches (n / den) (52 + k) (all-in-use (size (n / den)) 53 (lit< tt) K)))
 
 halved : (n den : ℕ) → 0 < den → dist (rounded n den * den) n * 2 ≤ den * 2 ^ drop 53 n den
 halved n den D =
@@ -47,7 +44,7 @@ small-error d n den u e h = let k : den * u ≡ den = ap (λ (x : ℕ). den * x)
 large-error : (d n den u : ℕ) → 2 ^ 52 * u * den ≤ n → d * 2 ≤ den * u → 2 ^ 53 * d ≤ n + 2 ^ 52 * den
 large-error d n den u f h = omega arith
 
-from-dist : (a b d : ℕ) → 2 ^ 53 * dist a b ≤ d → Within (2 ^ 53 * a) (2 ^ 53 * b) d
+pub from-dist : (a b d : ℕ) → 2 ^ 53 * dist a b ≤ d → Within (2 ^ 53 * a) (2 ^ 53 * b) d
 from-dist a b d h = omega arith
 
 pub rounded-error : (n den : ℕ) → 0 < den → Within (2 ^ 53 * (rounded n den * den)) (2 ^ 53 * n) (n + 2 ^ 52 * den)

@@ -6,18 +6,18 @@ use mathlib.Core.List.{List}
 use native.Mathlib.Numerals.{add-one}
 use lib.ListN.{length, getD, drop, drop-of-length-le}
 use lib.Seq.{drop-cons}
+use lib.Ieee.{Float}
 use Rattle.checks.specs.Checks.{allFinite}
-use Rattle.sgal3_answers.specs.Matrices.{finiteRows}
-use Rattle.sgal3_answers.specs.declared.Row10.{Row10}
+use Rattle.sgal3_answers.specs.Matrices.{finiteRows, rowsOf}
 
-pub passes : (s : List Row10) (d : Row10) (i : ℕ) → i < length s → allFinite (getD s i d .values) ≡ true → finiteRows (drop i s) ≡ finiteRows (drop (i + 1) s)
-unfolding finiteRows
-passes s d i h e = rw (add-one, drop-cons s i d, e)
+pub passes : (m : List (List Float)) (d : List Float) (i : ℕ) → i < length m → allFinite (getD m i d) ≡ true → finiteRows (rowsOf (drop i m)) ≡ finiteRows (rowsOf (drop (i + 1) m))
+unfolding finiteRows rowsOf
+passes m d i h e = rw (add-one, drop-cons m i d, e)
 
-pub stops : (s : List Row10) (d : Row10) (i : ℕ) → i < length s → allFinite (getD s i d .values) ≡ false → finiteRows (drop i s) ≡ false
-unfolding finiteRows
-stops s d i h e = rw (drop-cons s i d, e)
+pub stops : (m : List (List Float)) (d : List Float) (i : ℕ) → i < length m → allFinite (getD m i d) ≡ false → finiteRows (rowsOf (drop i m)) ≡ false
+unfolding finiteRows rowsOf
+stops m d i h e = rw (drop-cons m i d, e)
 
-pub ends : (s : List Row10) (i : ℕ) → length s ≤ i → finiteRows (drop i s) ≡ true
-unfolding finiteRows
-ends s i h = rw (drop-of-length-le s h)
+pub ends : (m : List (List Float)) (i : ℕ) → length m ≤ i → finiteRows (rowsOf (drop i m)) ≡ true
+unfolding finiteRows rowsOf
+ends m i h = rw (drop-of-length-le m h)

@@ -125,30 +125,31 @@ pub fn refused_matrix10(r: Refusal) -> Matrix10Answer
     }
 }
 
-// A row of its own: an array in a field is lent through a parameter.
-fn finite_row(values: &[f64; 10]) -> bool
-    ensures { λ r. ⌜ r ≡ Checks.allFinite (now (values .entry)) ⌝ }
+// A row that was copied out of a matrix is known to have ten values where it is a parameter.
+fn finite_row(row: &[f64; 10]) -> bool
+    ensures { λ r. ⌜ r ≡ Checks.allFinite (now (row .entry)) ⌝ }
 {
-    checks::all_finite(values)
+    checks::all_finite(row)
 }
 
-fn finite_rows(rows: [Row10; 10]) -> bool
-    ensures { λ r. ⌜ r ≡ Matrices.finiteRows rows ⌝ }
+fn finite_matrix(m: [[f64; 10]; 10]) -> bool
+    ensures { λ r. ⌜ r ≡ Matrices.finiteRows (Matrices.rowsOf m) ⌝ }
 {
     for i in 0..10 {
-        let row = rows[i];
-        let values = row.values;
-        if !finite_row(&values) {
+        let row = m[i];
+        if !finite_row(&row) {
             return false;
         }
     }
     true
 }
 
-fn answer_of_rows(rows: [Row10; 10]) -> Matrix10Answer
-    ensures { λ r. ⌜ r ≡ Matrices.answerOfRows rows ⌝ }
+// An answer whose values are finite, or the refusal; as are the three below.
+pub fn matrix10_answer(m: [[f64; 10]; 10]) -> Matrix10Answer
+    ensures { λ r. ⌜ r ≡ Matrices.matrix10Answer m ⌝ }
 {
-    if finite_rows(rows) {
+    if finite_matrix(m) {
+        let rows = rows_of(m);
         Matrix10Answer {
             outcome: Check::Passed,
             rows,
@@ -156,13 +157,6 @@ fn answer_of_rows(rows: [Row10; 10]) -> Matrix10Answer
     } else {
         refused_matrix10(Refusal::Overflow)
     }
-}
-
-// An answer whose values are finite, or the refusal; as are the three below.
-pub fn matrix10_answer(m: [[f64; 10]; 10]) -> Matrix10Answer
-    ensures { λ r. ⌜ r ≡ Matrices.matrix10Answer m ⌝ }
-{
-    answer_of_rows(rows_of(m))
 }
 
 pub fn refused_matrix(r: Refusal) -> MatrixAnswer

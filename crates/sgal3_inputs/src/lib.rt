@@ -35,7 +35,10 @@ pub enum Tangents {
 pub fn check_element(block: &[f64]) -> Answer
     ensures { λ r. ⌜ r ≡ Inputs.checkElement (now (block .entry)) ⌝ }
 {
-    sgal3_composition::check_element(block, checks::tolerance())
+    match checks::validate_sgal3_params(block) {
+        Check::Passed => Answer::Done(sgal3_composition::element_of(block)),
+        Check::Refused(r) => Answer::Refused(r),
+    }
 }
 
 fn tangent_of(s: &[f64]) -> Tangent

@@ -1,4 +1,3 @@
--- What the proofs of several functions use.
-mod Laws
-mod Line
-mod Stores
+pub mod Laws
+pub mod Line
+pub mod Stores

@@ -1,58 +1,55 @@
-//! exp, log and adjoint on blocks of values, through an entry that is there for timing alone: the library's and, behind a function of the
-//! same signature, the Rust source's own.
+//! exp, log and adjoint on blocks of values, each through an entry that is there for timing alone: the library's and, behind functions of
+//! the same signature, the Rust source's own.
 //!
 //! The outcome is words: the refusal's number, two figures, how many values follow, their bits. docs/TESTING.md has the format.
 use apex::sgal3::{SGal3, SGal3Tangent};
 use apex::{LieGroup, Tangent, SMALL_ANGLE_THRESHOLD};
 
 pub const OUTCOME: usize = 832;
-pub const EXP: u64 = 85;
-pub const LOG: u64 = 79;
-pub const ADJOINT: u64 = 93;
 
-/// A call, two blocks, an extra word, and the outcome's place: how many bytes were put there.
-pub type Answer = unsafe extern "C" fn(
-    u64,
-    *const f64,
-    usize,
-    *const f64,
-    usize,
-    u64,
-    *mut [u8; OUTCOME],
-) -> usize;
+/// A block, and the outcome's place: how many bytes were put there.
+pub type Entry = unsafe extern "C" fn(*const f64, usize, *mut [u8; OUTCOME]) -> usize;
 
 extern "C" {
-    pub fn request_answer(
-        call: u64,
-        left: *const f64,
-        left_len: usize,
-        right: *const f64,
-        right_len: usize,
-        extra: u64,
-        out: *mut [u8; OUTCOME],
-    ) -> usize;
+    pub fn sgal3_exp(tangent: *const f64, len: usize, out: *mut [u8; OUTCOME]) -> usize;
+    pub fn sgal3_log(block: *const f64, len: usize, out: *mut [u8; OUTCOME]) -> usize;
+    pub fn sgal3_adjoint(block: *const f64, len: usize, out: *mut [u8; OUTCOME]) -> usize;
 }
 
 /// # Safety
 ///
-/// The first pointer is that of as many values as the length beside it says, and `out` is that of an outcome's place.
-#[inline(never)]
-pub unsafe extern "C" fn source_answer(
-    call: u64,
-    left: *const f64,
-    left_len: usize,
-    _: *const f64,
-    _: usize,
-    _: u64,
+/// The first pointer is that of as many values as the length says, and `out` is that of an outcome's place; as of the two below.
+pub unsafe extern "C" fn source_exp(
+    tangent: *const f64,
+    len: usize,
     out: *mut [u8; OUTCOME],
 ) -> usize {
     // SAFETY: the caller's promise.
-    let (block, out) = unsafe { (std::slice::from_raw_parts(left, left_len), &mut *out) };
-    match call {
-        EXP => exp(block, out),
-        LOG => log(block, out),
-        _ => adjoint(block, out),
-    }
+    unsafe { exp(std::slice::from_raw_parts(tangent, len), &mut *out) }
+}
+
+/// # Safety
+///
+/// As of `source_exp`.
+pub unsafe extern "C" fn source_log(
+    block: *const f64,
+    len: usize,
+    out: *mut [u8; OUTCOME],
+) -> usize {
+    // SAFETY: the caller's promise.
+    unsafe { log(std::slice::from_raw_parts(block, len), &mut *out) }
+}
+
+/// # Safety
+///
+/// As of `source_exp`.
+pub unsafe extern "C" fn source_adjoint(
+    block: *const f64,
+    len: usize,
+    out: *mut [u8; OUTCOME],
+) -> usize {
+    // SAFETY: the caller's promise.
+    unsafe { adjoint(std::slice::from_raw_parts(block, len), &mut *out) }
 }
 
 fn exp(block: &[f64], out: &mut [u8; OUTCOME]) -> usize {

@@ -65,7 +65,7 @@ impl Entries {
 
     fn chain(&self, blocks: &[u8], out: &mut Block) -> u32 {
         let f = self.chain;
-        // SAFETY: each pointer and length are those of one slice, and `out` is borrowed mutably, so it doesn't overlap `block`.
+        // SAFETY: each pointer and length are those of one slice, and `out` is borrowed mutably, so it doesn't overlap `blocks`.
         unsafe { f(blocks.as_ptr(), blocks.len(), out.as_mut_ptr(), out.len()) }
     }
 }
@@ -194,58 +194,67 @@ fn steps(quaternion: fn(&mut Random) -> [f64; 4]) -> Vec<Block> {
     (0..CHAIN_MOST).map(step).collect()
 }
 
-/// Blocks for exp, log and adjoint: their turns are small enough to be answered.
-fn blocks(call: u64) -> Vec<Vec<f64>> {
-    let mut g = Random(2);
-    let block = |_| {
-        let mut values = |count: usize, size: f64| -> Vec<f64> {
-            (0..count).map(|_| size * g.small()).collect()
-        };
-        let (first, second, last) = (values(3, 1.0), values(3, 1.0), values(1, 0.01));
-        match call {
-            calls::EXP => [first, second, values(3, 5e-6), last].concat(),
-            calls::LOG => [first, vec![1.0], values(3, 2e-6), second, last].concat(),
-            _ => [first, unit(&mut g).to_vec(), second, last].concat(),
-        }
-    };
-    (0..CHAIN_MOST).map(block).collect()
+/// One of exp, log and adjoint: the library's entry, the source's, and how a block for it is made.
+struct Call {
+    name: &'static str,
+    entries: [calls::Entry; 2],
+    block: fn(&mut Random) -> Vec<f64>,
 }
 
-fn call_round(
-    answer: calls::Answer,
-    call: u64,
-    blocks: &[Vec<f64>],
-    out: &mut [u8; calls::OUTCOME],
-) -> usize {
-    let one = |block: &Vec<f64>| {
-        // SAFETY: the pointer is that of as many values as its length says; there is no second block, and a vector's pointer
-        // is not null.
-        unsafe { answer(call, block.as_ptr(), block.len(), block.as_ptr(), 0, 0, out) }
-    };
+const CALLS: [Call; 3] = [
+    Call {
+        name: "exp",
+        entries: [calls::sgal3_exp, calls::source_exp],
+        block: |g| [values(g, 6, 1.0), values(g, 3, 5e-6), values(g, 1, 0.01)].concat(),
+    },
+    Call {
+        name: "log",
+        entries: [calls::sgal3_log, calls::source_log],
+        block: |g| {
+            let q = [vec![1.0], values(g, 3, 2e-6)].concat();
+            [values(g, 3, 1.0), q, values(g, 3, 1.0), values(g, 1, 0.01)].concat()
+        },
+    },
+    Call {
+        name: "adjoint",
+        entries: [calls::sgal3_adjoint, calls::source_adjoint],
+        block: |g| {
+            let q = unit(g).to_vec();
+            [values(g, 3, 1.0), q, values(g, 3, 1.0), values(g, 1, 0.01)].concat()
+        },
+    },
+];
+
+fn values(g: &mut Random, count: usize, size: f64) -> Vec<f64> {
+    (0..count).map(|_| size * g.small()).collect()
+}
+
+fn call_round(entry: calls::Entry, blocks: &[Vec<f64>], out: &mut [u8; calls::OUTCOME]) -> usize {
+    // SAFETY: the pointer is that of as many values as the length says, and `out` is borrowed mutably.
+    let one = |block: &Vec<f64>| unsafe { entry(block.as_ptr(), block.len(), out) };
     blocks.iter().map(one).sum()
 }
 
 /// The median nanoseconds of a call, the library's and the source's, after their outcomes were compared.
-fn call_times(call: u64) -> [f64; 2] {
-    let candidates: [calls::Answer; 2] = [calls::request_answer, calls::source_answer];
-    let blocks = blocks(call);
+fn call_times(call: &Call) -> [f64; 2] {
+    let mut g = Random(2);
+    let blocks: Vec<_> = (0..CHAIN_MOST).map(|_| (call.block)(&mut g)).collect();
     for block in &blocks {
-        let [ours, theirs] = candidates.map(|answer| {
+        let [ours, theirs] = call.entries.map(|entry| {
             let mut out = [0; calls::OUTCOME];
-            let count = call_round(answer, call, std::slice::from_ref(block), &mut out);
+            let count = call_round(entry, std::slice::from_ref(block), &mut out);
             assert_eq!(out[0], 0, "a call of the benchmark was refused");
             out[..count].to_vec()
         });
-        assert!(ours == theirs, "call {call} differs");
+        assert!(ours == theirs, "{} differs", call.name);
     }
-    let mut rounds = candidates.map(|_| Vec::with_capacity(ROUNDS));
+    let mut rounds = call.entries.map(|_| Vec::with_capacity(ROUNDS));
     let mut out = [0; calls::OUTCOME];
     for _ in 0..ROUNDS {
-        for (answer, list) in candidates.iter().zip(&mut rounds) {
+        for (entry, list) in call.entries.iter().zip(&mut rounds) {
             let start = Instant::now();
             black_box(call_round(
-                *black_box(answer),
-                call,
+                *black_box(entry),
                 black_box(&blocks),
                 black_box(&mut out),
             ));
@@ -326,14 +335,11 @@ fn chain_table(classes: &[Class]) {
 fn call_table() {
     println!("| call | library, ns | source, ns | library / source |");
     println!("|---|---:|---:|---:|");
-    for (name, call) in [
-        ("exp", calls::EXP),
-        ("log", calls::LOG),
-        ("adjoint", calls::ADJOINT),
-    ] {
+    for call in &CALLS {
         let [ours, theirs] = call_times(call);
         println!(
-            "| {name} | {ours:.1} | {theirs:.1} | {:.2} |",
+            "| {} | {ours:.1} | {theirs:.1} | {:.2} |",
+            call.name,
             ours / theirs
         );
     }

@@ -1,3 +1,4 @@
+//! An element by its values, and as the bytes of a block.
 use crate::ELEMENT_BYTES;
 
 /// A motion: rotation, translation, velocity and time.

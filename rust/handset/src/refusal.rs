@@ -1,3 +1,4 @@
+//! Why a call is refused: names for the numbers of the C entries.
 use core::fmt;
 
 /// Why a call is refused. The numbers are tried in rising order, each over all blocks from left to right before the next.

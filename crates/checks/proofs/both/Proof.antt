@@ -6,9 +6,7 @@ use Rattle.checks.proofs.both.Tie as tie
 
 returns : tie.Need-returns
 unfolding Checks.both
-returns c =
-    rw
-    (c .enum-told .given .1)
+returns c = rw (c .enum-told .given .1)
 
 returns-2 : tie.Need-returns-2
 unfolding Checks.both

@@ -43,18 +43,18 @@ main-spec =
     tie.close
     (tie.spec Inv-loop μ-loop
     (λ c. search needs)
-    (λ c. search needs) (λ c κs. search needs) (λ c. search needs)
+    (λ c. search needs) _ (λ c. search needs)
     (λ c. search needs) (λ c κs. search needs)
-    (λ c. search needs) (λ c κs. search needs) (λ c κs. search needs)
-    (λ c. search needs) (λ c κs. search needs) (λ c. search needs)
+    (λ c. search needs) (λ c κs. search needs) _
+    (λ c. search needs) _ (λ c. search needs)
     (λ c. search needs)
     (λ c. search needs) (λ c κs. search needs)
-    (λ c. search needs) (λ c κs. search needs) (λ c. search needs)
+    (λ c. search needs) _ (λ c. search needs)
     (λ c. search needs) (λ c. search needs) (λ c κs. search needs)
     (λ c. search needs) (λ c κs. search needs)
     (λ c. search needs) (λ c κs. search needs)
     (λ c. search needs) answer-values-requires
-    (λ c. search needs) (λ c κs. search needs) (λ c. search needs)
-    array-share-prefix-out slice-aggregate-write-all-4 (λ c κs. search needs)
-    (λ c. search needs) (λ c κs. search needs) (λ c. search needs)
+    (λ c. search needs) _ (λ c. search needs)
+    array-share-prefix-out slice-aggregate-write-all-4 _
+    (λ c. search needs) _ (λ c. search needs)
     sub-left loop-less (λ c. search needs) (λ c. search needs))

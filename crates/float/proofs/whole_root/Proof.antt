@@ -10,8 +10,12 @@ use Rattle.float.specs.declared.Digits.{Digits}
 use Rattle.float.proofs.whole_root.Statement.{statement}
 use Rattle.float.proofs.whole_root.Tie as tie
 
+-- after i digits
+abbrev Inv : ℕ → ℕ → Digits → Type 0
+Inv a i s = (i ≤ 54) × Ready s × (s .root < 2 ^ i) × (total s ≡ a * 4 ^ i)
+
 abbrev Inv-loop : tie.InvT-loop
-Inv-loop a s₀ i₀ s i = (i ≤ 54) × Ready s × (s .root < 2 ^ i) × (total s ≡ a * 4 ^ i)
+Inv-loop a s₀ i₀ s i = Inv a i s
 
 abbrev μ-loop : tie.MeasureT-loop
 μ-loop a s₀ i₀ s i = 54 - i
@@ -22,9 +26,6 @@ two-more i = ap (λ (n : ℕ). 2 ^ n) (add-one i) ∙ pow-suc 2 i ∙ mul-comm (
 
 four-more : (a i : ℕ) → a * 4 ^ (i + 1) ≡ 4 * (a * 4 ^ i)
 four-more a i = ap (λ (n : ℕ). a * 4 ^ n) (add-one i) ∙ ap (λ (n : ℕ). a * n) (pow-suc 4 i ∙ mul-comm (4 ^ i) 4) ∙ mul-left-comm a 4 (4 ^ i)
-
-abbrev Inv : ℕ → ℕ → Digits → Type 0
-Inv a i s = (i ≤ 54) × Ready s × (s .root < 2 ^ i) × (total s ≡ a * 4 ^ i)
 
 at-54 : (a : ℕ) (s : Digits) → Ready s → total s ≡ a * 4 ^ 54 → WholeRoot (a * 2 ^ 54) (s .root)
 at-54 a s r h = omega arith

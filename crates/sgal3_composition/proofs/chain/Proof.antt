@@ -7,9 +7,7 @@ use Rattle.sgal3_composition.proofs.chain.Tie as tie
 
 returns : tie.Need-returns
 unfolding Calls.chain
-returns c =
-    rw
-    (lt-ltb _ _ (c .if1 .taken))
+returns c = rw (lt-ltb _ _ (c .if1 .taken))
 
 returns-2 : tie.Need-returns-2
 unfolding Calls.chain

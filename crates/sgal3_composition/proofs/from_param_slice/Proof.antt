@@ -7,9 +7,7 @@ use Rattle.sgal3_composition.proofs.from_param_slice.Tie as tie
 
 returns : tie.Need-returns
 unfolding Calls.fromParamSlice
-returns c =
-    rw
-    (ne-eqb _ _ (c .if1 .taken))
+returns c = rw (ne-eqb _ _ (c .if1 .taken))
 
 returns-2 : tie.Need-returns-2
 unfolding Calls.fromParamSlice

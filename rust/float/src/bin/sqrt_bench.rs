@@ -18,6 +18,7 @@ extern "C" fn unchanged(x: f64) -> f64 {
     x
 }
 
+/// Takes every number, and touches no memory.
 type Function = unsafe extern "C" fn(f64) -> f64;
 
 const CALLS: usize = 1 << 14;
@@ -28,6 +29,7 @@ const ROUNDS: usize = 201;
 fn in_turn(f: Function, arguments: &[u64], none: u64) -> u64 {
     let mut last = 0;
     for b in arguments {
+        // SAFETY: a `Function` is safe to call.
         last = unsafe { f(f64::from_bits(b ^ (last & none))) }.to_bits();
     }
     last
@@ -38,6 +40,7 @@ fn in_turn(f: Function, arguments: &[u64], none: u64) -> u64 {
 fn side_by_side(f: Function, arguments: &[u64], none: u64) -> u64 {
     let mut all = none;
     for b in arguments {
+        // SAFETY: a `Function` is safe to call.
         all ^= unsafe { f(f64::from_bits(*b)) }.to_bits();
     }
     all

@@ -20,8 +20,9 @@ fn main() {
         for (k, (_, draw)) in KINDS.iter().enumerate() {
             for b in draw(&mut g) {
                 let expected = machine_root(b);
-                let bits = unsafe { float_sqrt_bits(b) };
-                let value = canonical(unsafe { float_sqrt(f64::from_bits(b)) }.to_bits());
+                // SAFETY: both take every number, and touch no memory.
+                let (bits, value) = unsafe { (float_sqrt_bits(b), float_sqrt(f64::from_bits(b))) };
+                let value = canonical(value.to_bits());
                 tried[k] += 1;
                 total += 1;
                 if bits != expected || value != expected {

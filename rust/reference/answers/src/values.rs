@@ -88,8 +88,8 @@ fn sgal3(to: To, element: SGal3) -> bool {
 
 /// The values of an element; for every NaN the one whose bits the format has.
 fn as_given(to: To, element: SGal3) -> bool {
-    const INFINITY: u64 = 0x7FF0_0000_0000_0000;
-    const NAN: u64 = 0x7FF8_0000_0000_0000;
+    const INFINITY: u64 = 0x7ff0_0000_0000_0000;
+    const NAN: u64 = 0x7ff8_0000_0000_0000;
     sgal3(to, element);
     for bits in to {
         if *bits & (u64::MAX >> 1) > INFINITY {

@@ -2,7 +2,7 @@
 use std::cell::Cell;
 use std::ops::Range;
 
-thread_local! { static STATE: Cell<u64> = const { Cell::new(0x9E37_79B9_7F4A_7C15) }; }
+thread_local! { static STATE: Cell<u64> = const { Cell::new(0x9e37_79b9_7f4a_7c15) }; }
 
 fn unit() -> f64 {
     STATE.with(|s| {

@@ -300,7 +300,7 @@ pub fn orders() -> Vec<Order> {
         &[0.5; 4],
         &third,
         2,
-        0x3FC5_5555_5555_5555,
+        0x3fc5_5555_5555_5555,
     );
     let (minus_one, minus_x) = ([-1.0, 0.0, 0.0, 0.0], [0.0, -1.0, 0.0, 0.0]);
     order(says, "so3_compose", &minus_one, &minus_x, 0, 0);
@@ -311,7 +311,7 @@ pub fn orders() -> Vec<Order> {
         &third,
         &[],
         8,
-        0xBFBC_71C7_1C71_C720,
+        0xbfbc_71c7_1c71_c720,
     );
     let says = "products of the rotation matrix doubled last";
     order(
@@ -330,10 +330,10 @@ pub fn orders() -> Vec<Order> {
     order(says, "sgal3_exp", &negative_nu, &[], 7, 0);
     let says = "each value is divided by the norm";
     let seventh = over(7.0, [0.0, 2.0, 3.0, 6.0]);
-    order(says, "so3_inverse", &seventh, &[], 2, 0xBFDB_6DB6_DB6D_B6DC);
+    order(says, "so3_inverse", &seventh, &[], 2, 0xbfdb_6db6_db6d_b6dc);
     let says = "the quaternion's norm";
     let seventh = over(7.0, [2.0, 4.0, 5.0, 2.0]);
-    order(says, "so3_inverse", &seventh, &[], 0, 0x3FD2_4924_9249_2492);
+    order(says, "so3_inverse", &seventh, &[], 0, 0x3fd2_4924_9249_2492);
     let says = "the Jacobian adds at all nine places";
     order(says, "so3_left_jacobian", &[0.0; 3], &[], 1, 0);
     list
@@ -360,33 +360,33 @@ pub fn limits() -> Vec<Limit> {
     };
     let says = "inside, unless the squares are added from the right";
     let theta = [
-        0x3EE0_05A6_75F6_0B21,
-        0x3EDA_C4D3_F642_97AB,
-        0xBEAF_D1B7_0832_98A9,
+        0x3ee0_05a6_75f6_0b21,
+        0x3eda_c4d3_f642_97ab,
+        0xbeaf_d1b7_0832_98a9,
     ];
     limit(says, "so3_exp", &theta, 0);
     let says = "the squared angle is the limit";
-    let theta = [0x3EE2_AB4A_356C_E8F8, 0x3ED3_1B64_0888_66AA, 0];
+    let theta = [0x3ee2_ab4a_356c_e8f8, 0x3ed3_1b64_0888_66aa, 0];
     limit(says, "so3_exp", &theta, 0);
     limit(says, "so3_left_jacobian_inv", &theta, 0);
     let says = "the largest theta inside on one axis";
-    limit(says, "so3_exp", &[0x3EE4_F8B5_88E3_68F0, 0, 0], 0);
+    limit(says, "so3_exp", &[0x3ee4_f8b5_88e3_68f0, 0, 0], 0);
     let says = "the smallest theta outside on one axis";
-    limit(says, "so3_exp", &[0x3EE4_F8B5_88E3_68F1, 0, 0], 4);
+    limit(says, "so3_exp", &[0x3ee4_f8b5_88e3_68f1, 0, 0], 4);
     let says = "the half angle is at the limit";
     let half = [
-        0x3FEF_FFFF_FFF9_20C8,
-        0xBEB8_FC14_CC0C_D4C5,
-        0x3E63_E91C_0D1F_E4DE,
-        0xBEE4_BCCE_6BEE_5D54,
+        0x3fef_ffff_fff9_20c8,
+        0xbeb8_fc14_cc0c_d4c5,
+        0x3e63_e91c_0d1f_e4de,
+        0xbee4_bcce_6bee_5d54,
     ];
     limit(says, "so3_log", &half, 0);
     limit(says, "so3_log_jacobian", &half, 4);
     let says = "inside when normalised once, outside when normalised twice";
     let angle = [
-        0x3FF0_0000_94FF_2419,
-        0xBECA_8153_CD46_26F6,
-        0x3ED0_40E0_AD82_201E,
+        0x3ff0_0000_94ff_2419,
+        0xbeca_8153_cd46_26f6,
+        0x3ed0_40e0_ad82_201e,
         0,
     ];
     limit(says, "so3_log_jacobian", &angle, 0);

@@ -10,7 +10,7 @@ use crate::refusals;
 /// How many answers of a kind are kept for later inputs.
 const KEPT: usize = 64;
 /// The largest theta on one axis whose square is within the limit.
-const LARGEST_ON_AXIS: u64 = 0x3EE4_F8B5_88E3_68F0;
+const LARGEST_ON_AXIS: u64 = 0x3ee4_f8b5_88e3_68f0;
 
 /// Draws requests from a seed.
 pub struct Generator {

@@ -5,10 +5,10 @@ pub struct Random(pub u64);
 
 impl Random {
     pub fn word(&mut self) -> u64 {
-        self.0 = self.0.wrapping_add(0x9E37_79B9_7F4A_7C15);
+        self.0 = self.0.wrapping_add(0x9e37_79b9_7f4a_7c15);
         let mut z = self.0;
-        z = (z ^ (z >> 30)).wrapping_mul(0xBF58_476D_1CE4_E5B9);
-        z = (z ^ (z >> 27)).wrapping_mul(0x94D0_49BB_1331_11EB);
+        z = (z ^ (z >> 30)).wrapping_mul(0xbf58_476d_1ce4_e5b9);
+        z = (z ^ (z >> 27)).wrapping_mul(0x94d0_49bb_1331_11eb);
         z ^ (z >> 31)
     }
 
@@ -100,7 +100,7 @@ impl Random {
 
     /// A NaN of either sign, quiet or not, with one of several payloads, or an infinity.
     pub fn not_finite(&mut self) -> u64 {
-        const INFINITY: u64 = 0x7FF0_0000_0000_0000;
+        const INFINITY: u64 = 0x7ff0_0000_0000_0000;
         const QUIET: u64 = 1 << 51;
         let payload = match self.below(8) {
             0..=2 => 0,

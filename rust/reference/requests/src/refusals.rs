@@ -75,7 +75,7 @@ pub fn overflow(values: &[u64]) -> Option<Refusal> {
 /// By the exponent's bits, which are all ones for infinities and NaNs alike, so that no question about a NaN is asked
 /// of the arithmetic.
 pub fn is_finite(bits: u64) -> bool {
-    const EXPONENT: u64 = 0x7FF0_0000_0000_0000;
+    const EXPONENT: u64 = 0x7ff0_0000_0000_0000;
     bits & EXPONENT != EXPONENT
 }
 
