@@ -34,13 +34,13 @@ export TMPDIR := $(shell $(IN_MEMORY) && echo /dev/shm || echo /tmp)
 endif
 
 # rt starts so many checks, waits for all of them and starts the next: with more of them than processors, these idle less.
-RT_JOBS ?= 6
+RT_JOBS ?= 8
 export RT_JOBS
 
 # A part that wants a tool which is missing says so, and fails in CI.
 WITHOUT = { echo "NOT RUN: $@: there is no $(1) here"; [ "$$CI" != true ]; }
-# What rt prints is shown only where it fails.
-QUIETLY = mkdir -p target && $(1) > target/$@.log 2>&1 || { cat target/$@.log; exit 1; }
+# What rt prints is shown only where it fails. Two of its checks at once would take each other's unfinished files.
+QUIETLY = mkdir -p target && flock target/lock $(1) > target/$@.log 2>&1 || { cat target/$@.log; exit 1; }
 
 # What cargo is needed for: rustc links with cc.
 WITH_CARGO = if ! command -v cargo > /dev/null; then $(call WITHOUT,cargo); \
@@ -48,10 +48,16 @@ WITH_CARGO = if ! command -v cargo > /dev/null; then $(call WITHOUT,cargo); \
 # What is needed to run the Rust source itself.
 WITH_SOURCE = if ! [ -d "$$APEX_SRC" ]; then $(call WITHOUT,Rust source (APEX_SRC names its folder)); else $(call WITH_CARGO,$(1)); fi
 
-.PHONY: run test test-built try try-programs try-requests toolchain-check format-check lib test-rust test-c vectors-check cases-check sample-check \
+# Two parts at a time where both are only to pass or fail, and one after the other where times are measured.
+TWO_AT_A_TIME = $(MAKE) --no-print-directory -j2 --output-sync=target IN_ORDER=
+
+.PHONY: run test test-sources test-built try toolchain-check format-check lib test-rust test-c vectors-check cases-check sample-check \
 	test-reference compare compare-sqrt compare-calls compare-entries valgrind-entries conformance bench bench-sqrt \
 	bench-handset sgal3-lib vectors cases sample float-lib
+IN_ORDER = yes
+ifdef IN_ORDER
 .NOTPARALLEL:
+endif
 
 run:
 	@$(call QUIETLY,rt check chain)
@@ -59,12 +65,14 @@ run:
 
 # What wants a program or a library that is proved comes after rt ci: so each is proved once, in this very run. Its verdict
 # is printed again as the last line, if the rest passes too.
-test: toolchain-check format-check vectors-check cases-check sample-check test-reference try
+test: toolchain-check format-check
+	@$(TWO_AT_A_TIME) test-sources
 	@exec 3>&1; verdict=$$(set -o pipefail; rt ci | while IFS= read -r line; do printf '%s\n' "$$line" >&3; \
 	    printf '%s\n' "$$line"; done | tail -n 1) && \
-	$(MAKE) --no-print-directory test-built COUNT=5000000 && printf '%s\n' "$$verdict"
+	$(TWO_AT_A_TIME) test-built COUNT=5000000 && printf '%s\n' "$$verdict"
 
-test-built: test-rust test-c compare valgrind-entries
+test-sources: try vectors-check cases-check sample-check test-reference
+test-built: valgrind-entries compare test-rust test-c
 
 # The definitions that the proofs rest on are the toolchain's: another one is another claim.
 toolchain-check:
@@ -77,7 +85,7 @@ format-check:
 
 # rt staticlib proves one crate at a time, and rt check as many as there are processors.
 lib:
-	@$(call QUIETLY,rt check sgal3_composition words)
+	@$(call QUIETLY,rt check byte_chain)
 	@$(call QUIETLY,rt staticlib handset)
 	@mkdir -p target/lib && cp target/staticlib/libhandset.a include/handset.h target/lib/
 
@@ -117,17 +125,19 @@ test-reference:
 
 # A mistake in the code shows here before any proof is checked. What conformance is asked stands in its folder, so it runs in a
 # copy of the crates; the interpreter ends a run after ten million steps, and 800 requests stay well below.
-try: try-programs try-requests
+TRIED_PROGRAMS = $(addprefix try-,chain chain_cases bench_lines sqrt_vectors)
+TRIED_SEEDS = $(addprefix try-requests-,$(shell seq $(SEED) $$(($(SEED) + $(TRIES) - 1))))
+.PHONY: $(TRIED_PROGRAMS) $(TRIED_SEEDS)
+try: $(TRIED_SEEDS) $(TRIED_PROGRAMS)
 
-try-programs:
-	@for program in chain chain_cases bench_lines sqrt_vectors; do rt try $$program || exit 1; done
+$(TRIED_PROGRAMS): try-%:
+	@rt try $*
 
-TRIED = target/try/crates/conformance
-try-requests:
-	@$(call WITH_SOURCE,rm -rf target/try && mkdir -p target/try && cp -r crates crates.txt target/try/ && \
-	    for seed in $$(seq $(SEED) $$(($(SEED) + $(TRIES) - 1))); do \
-	        $(CARGO) run $(REFERENCE) --bin draw -- $(TRIED)/stdin $(TRIED)/stdout $$seed 800 && \
-	        echo "seed $$seed: 800 requests" && (cd target/try && rt try conformance) || exit 1; done; rm -rf target/try)
+TRIED = target/try/$*
+$(TRIED_SEEDS): try-requests-%:
+	@$(call WITH_SOURCE,rm -rf $(TRIED) && mkdir -p $(TRIED) && cp -r crates crates.txt $(TRIED)/ && \
+	    $(CARGO) run $(REFERENCE) --bin draw -- $(TRIED)/crates/conformance/stdin $(TRIED)/crates/conformance/stdout $* 800 && \
+	    echo "seed $*: 800 requests" && (cd $(TRIED) && rt try conformance) && rm -rf $(TRIED))
 
 float-lib:
 	@$(call QUIETLY,rt staticlib float_export)

@@ -12,8 +12,9 @@ use lib.Ieee.Bits.{is-true, is-false}
 use lib.Ieee.Fits.{and-l, and-r}
 use lib.Ieee.Scale.{finite}
 use Rattle.float.specs.Exact.{count, negative, abs}
-use Rattle.float.specs.Root.{square, squareRoot}
-use Rattle.float.proofs.Isqrt.{square-lt}
+use Rattle.whole_roots.specs.Roots.{square}
+use Rattle.whole_roots.proofs.Squares.{square-lt}
+use Rattle.float.specs.Root.{squareRoot}
 use Rattle.rounding.specs.Number.{Number, one, limit, plusPart, minusPart}
 use Rattle.rounding.specs.Error.{Within}
 use Rattle.rounding.proofs.Laws.{plus-parts, minus-parts, one-pos, one-limit, sub-number, sub-parts, sqrt-root, root-squared, lt-is, le-is}

@@ -114,7 +114,7 @@ pub fn check_unit_quaternion(q: &[f64], tolerance: f64) -> Check
     if passes_without_root(squared, tolerance) {
         return Check::Passed;
     }
-    check_norm(float::sqrt(squared), tolerance)
+    check_norm(float::general_sqrt(squared), tolerance)
 }
 
 // Length, then all values.

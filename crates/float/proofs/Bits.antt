@@ -60,15 +60,19 @@ plain-value b s e h =
     (sym (bits-are b ∙ ap (λ (u : Bool). ofFields binary64 u (b % 2 ^ 63 / 2 ^ 52) (b % 2 ^ 52)) e))
     (fields-value s (b % 2 ^ 63 / 2 ^ 52) (b % 2 ^ 52) (omega arith))
 
-pub root-above-zero : (b r : ℕ) → 0 < b → b < 0x7ff0_0000_0000_0000 → Rooted b r → r ≡ squareRootBits b
-unfolding squareRootBits patternCount
-root-above-zero b r p h k =
+pub root-of-pattern : (b r : ℕ) → 0 < b → b < 0x7ff0_0000_0000_0000 → Rooted b r → ofBits binary64 r ≡ squareRoot (ofBits binary64 b)
+unfolding patternCount
+root-of-pattern b r p h k =
     let f : b % 2 ^ 63 / 2 ^ 52 ≡ b / 2 ^ 52 = omega arith in
     let v = plain-value b false (is-false (leb (2 ^ 63) b) (lt→nleb (2 ^ 63) b (omega arith))) (omega arith) in
     let w = subst (λ (x : ℕ). HasValue (ofBits binary64 b) false (fieldCount x (b % 2 ^ 52)) (2 ^ 1074)) f v in
-    let e = above-zero (ofBits binary64 b) (patternCount b) (field-pos (b / 2 ^ 52) (b % 2 ^ 52) (omega arith)) (ofBits-fits binary64 b) w in
+    k .value ∙ sym (above-zero (ofBits binary64 b) (patternCount b) (field-pos (b / 2 ^ 52) (b % 2 ^ 52) (omega arith)) (ofBits-fits binary64 b) w)
+
+pub root-above-zero : (b r : ℕ) → 0 < b → b < 0x7ff0_0000_0000_0000 → Rooted b r → r ≡ squareRootBits b
+unfolding squareRootBits
+root-above-zero b r p h k =
     let q : r < 0x7ff0_0000_0000_0000 = k .finite in
-    sym (ap (toBits binary64) (e ∙ sym (k .value)) ∙ toBits-ofBits binary64 r (omega arith) (subst (λ (x : Bool). T (not x)) (nanBits-is binary64 r) (not-nan-pattern r (omega arith))))
+    sym (ap (toBits binary64) (sym (root-of-pattern b r p h k)) ∙ toBits-ofBits binary64 r (omega arith) (subst (λ (x : Bool). T (not x)) (nanBits-is binary64 r) (not-nan-pattern r (omega arith))))
 
 root-of-nan : (b : ℕ) → 0x7ff0_0000_0000_0000 < b % 2 ^ 63 → squareRoot (ofBits binary64 b) ≡ nan
 unfolding squareRoot

@@ -4,8 +4,8 @@ use Prim.Native.Nat.{ℕ, _+_, _-_, _*_, _/_, _%_, _^_, _≤_, _<_}
 use native.Mathlib.Nat.{mul-le-mul, mul-le-mul-right, lt-of-not-le, lt-of-le-of-lt, lt-of-lt-of-le, lt-irrefl, le-of-lt}
 use native.Mathlib.Decide.{decLe}
 use native.Mathlib.Omega.{arith}
-use Rattle.float.specs.Root.{square}
-use Rattle.float.specs.Steps.{Between, Rooted, SquareTerm, Clear}
+use Rattle.whole_roots.specs.Roots.{square, Between}
+use Rattle.float.specs.Steps.{Rooted, SquareTerm, Clear}
 use Rattle.float.proofs.SquareRoot.{root-of-field}
 
 -- ---- the distance d of b from 1.0's pattern

@@ -3,7 +3,7 @@
 -- Assumes nothing.
 use mathlib.Core.Path.{_≡_, refl, sym, ap, _∙_, subst}
 use mathlib.Core.Bool.{false, not}
-use Prim.Native.Nat.{ℕ, zero, suc, _+_, _-_, _*_, _/_, _%_, _^_, _≤_, _<_, compare, Ordering, Ordering·lt, Ordering·eq, Ordering·gt}
+use Prim.Native.Nat.{ℕ, suc, _+_, _-_, _*_, _/_, _%_, _^_, _≤_, _<_, compare, Ordering, Ordering·lt, Ordering·eq, Ordering·gt}
 use native.Mathlib.Nat.{le-trans, le-of-eq, le-antisymm, lt-of-lt-of-le, lt-of-le-of-lt, mul-le-mul-right, lt-of-mul-lt-mul-right, eq-of-mul-eq-mul-right, mul-div-cancel, mul-pos, mul-assoc, mul-mul-mul-comm}
 use native.Mathlib.Omega.{arith}
 use lib.Dec.{T, isLe, isEq, eqb, leb→le, nleb→lt, eqb→eq, eqb-refl}
@@ -11,10 +11,11 @@ use lib.Arith.{lt-of-le-ne}
 use lib.Pow.{pow-add, pow-pos, shl-lt}
 use lib.Ieee.{Float, binary64, size, nearest, units}
 use lib.Ieee.Digits.{size-lt, size-le}
-use Rattle.float.specs.Root.{square, isqrt, nearestRoot}
-use Rattle.float.specs.Steps.{WholeRoot, Between}
+use Rattle.whole_roots.specs.Roots.{square, WholeRoot, Between}
+use Rattle.whole_roots.proofs.Squares.{square-lt}
+use Rattle.float.specs.Root.{isqrt, nearestRoot}
 use Rattle.float.proofs.Counts.{pow-lt-back}
-use Rattle.float.proofs.Isqrt.{square-lt, isqrt-root}
+use Rattle.float.proofs.Isqrt.{isqrt-root}
 
 -- ---- what `compare` says
 abbrev Cmp : Ordering → ℕ → ℕ → Type 0
@@ -111,22 +112,3 @@ confirmed m j q lo hi far A b =
     ∙ ap (core (m * 2 ^ j)) (dropped (size (m * 2 ^ j)) j (digits-of m j lo hi) far)
     ∙ ap (λ (n : ℕ). core n (j / 2 - 26)) (scaled m j far)
     ∙ core-is (m * 2 ^ (j % 2)) (j / 2 - 26) q A b
-
--- ---- the whole root h of x rounds to such a q, for an even x: no tie, since the square of an odd number is odd
-from-odd : (x h k : ℕ) → x % 2 ≡ 0 → h ≡ 2 * k + 1 → WholeRoot x h → Between x ((h + 1) / 2)
-from-odd x h k e o r =
-    let s : square h ≡ square (2 * k + 1) = ap square o in
-    record { odd = h; next = omega arith; above = omega (arith, r .low); under = omega (arith, r .high) }
-
-from-even : (x h k : ℕ) → h ≡ 2 * k + 2 → WholeRoot x h → Between x ((h + 1) / 2)
-from-even x h k o r =
-    let s : square h ≡ square (2 * k + 2) = ap square o in
-    let t : square (h + 1) ≡ square (2 * k + 2 + 1) = ap (λ (z : ℕ). square (z + 1)) o in
-    record { odd = 2 * k + 1; next = omega arith; above = omega (arith, r .low); under = omega (arith, r .high) }
-
-pub rounded : (x h : ℕ) → x % 2 ≡ 0 → 0 < h → WholeRoot x h → Between x ((h + 1) / 2)
-rounded x h e H r = go (h % 2) refl
-  where
-    go : (p : ℕ) → h % 2 ≡ p → Between x ((h + 1) / 2)
-    go zero p = from-even x h (h / 2 - 1) (omega arith) r
-    go (suc _) p = from-odd x h (h / 2) e (omega arith) r

@@ -2,15 +2,11 @@
 use mathlib.Core.Path.{subst}
 use mathlib.Core.Bool.{Bool, true, false, not, cond}
 use Prim.Native.Nat.{ℕ, zero, suc, _+_, _*_, _/_, _^_, _≤_, _<_}
-use native.Mathlib.Nat.{mul-le-mul, lt-of-not-le, not-le-of-lt, pow-suc, div-lt-iff-lt-mul, zero-lt-suc}
+use native.Mathlib.Nat.{pow-suc, div-lt-iff-lt-mul, zero-lt-suc}
 use native.Mathlib.Omega.{arith}
 use lib.Dec.{T, leb, leb→le, nleb→lt}
-use Rattle.float.specs.Root.{square, digit, isqrt}
-use Rattle.float.specs.Steps.{WholeRoot}
-
--- a smaller square has a smaller root
-pub square-lt : (a b : ℕ) → square a < square b → a < b
-square-lt a b h = lt-of-not-le (λ (g : b ≤ a). not-le-of-lt h (mul-le-mul g g))
+use Rattle.whole_roots.specs.Roots.{square, WholeRoot}
+use Rattle.float.specs.Root.{digit, isqrt}
 
 digit-root : (r n : ℕ) → WholeRoot (n / 4) r → WholeRoot n (digit r n)
 unfolding digit

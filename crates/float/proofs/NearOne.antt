@@ -4,8 +4,8 @@ use Prim.Native.Nat.{ℕ, _+_, _-_, _*_, _/_, _%_, _^_, _≤_, _<_}
 use native.Mathlib.Nat.{mul-le-mul, mul-le-mul-right, lt-of-not-le}
 use native.Mathlib.Decide.{decLe}
 use native.Mathlib.Omega.{arith}
-use Rattle.float.specs.Root.{square}
-use Rattle.float.specs.Steps.{Between, Rooted}
+use Rattle.whole_roots.specs.Roots.{square, Between}
+use Rattle.float.specs.Steps.{Rooted}
 use Rattle.float.proofs.SquareRoot.{root-of-field}
 
 -- above 1.0 by d patterns: the root is h further than 2 ^ 52, for a d of 2 * h or one more

@@ -11,13 +11,15 @@ use lib.IntN.{ℤ}
 use lib.Ieee.{Float, fin, binary64, fits, toBits}
 use lib.Ieee.Exact.{HasValue, units-val}
 use Rattle.float.specs.Exact.{count}
-use Rattle.float.specs.Root.{square, isqrt, nearestRoot, squareRoot}
-use Rattle.float.specs.Steps.{Between, Split, patternCount}
+use Rattle.whole_roots.specs.Roots.{square, Between}
+use Rattle.whole_roots.proofs.Squares.{root-near}
+use Rattle.float.specs.Root.{isqrt, nearestRoot, squareRoot}
+use Rattle.float.specs.Steps.{Split, patternCount}
 use Rattle.float.specs.declared.Scaled.{Scaled}
 use Rattle.float.proofs.Isqrt.{isqrt-root}
 use Rattle.float.proofs.Candidate.{confirmed, scaled}
 use Rattle.float.proofs.Patterns.{read, split-low, split-high}
-use Rattle.float.proofs.SquareRoot.{even-of, near-low, near-high, root-near}
+use Rattle.float.proofs.SquareRoot.{even-of, near-low, near-high}
 
 -- the root is q * 2 ^ k counts, q having 53 digits, and n lies strictly between the squares of q - 1/2 and q + 1/2 times 2 ^ k, all times 2
 pub record Rounding (r : Float) (n : ℕ) : Type 0 where

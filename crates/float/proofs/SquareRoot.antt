@@ -5,13 +5,15 @@ use Prim.Native.Nat.{ℕ, zero, suc, _+_, _-_, _*_, _/_, _%_, _^_, _≤_, _<_}
 use native.Mathlib.Nat.{lt-of-lt-of-le, lt-of-le-of-lt, mod-eq-of-lt}
 use native.Mathlib.Omega.{arith}
 use lib.Dec.{T, eqb, eqb→eq, ltb→lt, nltb→le}
-use lib.Ieee.{Float, nan, inf, fin, binary64, lt, eq, fits, isNan, ofBits, toBits}
+use lib.Ieee.{Float, nan, inf, fin, binary64, lt, eq, ne, fits, isNan, ofBits, toBits}
+use lib.Ieee.Compare.{differs-from-itself}
 use lib.Ieee.Fits.{and-l}
+use Rattle.whole_roots.specs.Roots.{Between}
+use Rattle.whole_roots.proofs.Squares.{square-lt}
 use Rattle.float.specs.Root.{nearestRoot, squareRoot}
-use Rattle.float.specs.Steps.{WholeRoot, Between, Split, Rooted, patternCount}
+use Rattle.float.specs.Steps.{Split, Rooted, patternCount}
 use Rattle.float.specs.declared.Scaled.{Scaled}
-use Rattle.float.proofs.Isqrt.{square-lt}
-use Rattle.float.proofs.Candidate.{confirmed, rounded}
+use Rattle.float.proofs.Candidate.{confirmed}
 use Rattle.float.proofs.Patterns.{read, written, split-high}
 use Rattle.float.proofs.Zero.{zero64, is, isnt, mine, zeros, no-zeros, some, clash, zero-level, zero-equal}
 
@@ -45,17 +47,6 @@ near-high a q A r =
     let s = square-lt (r .odd) (2 ^ 54 - 1) (lt-of-lt-of-le (r .above) (omega arith)) in
     omega (arith, r .next)
 
-pub root-high : (a h : ℕ) → a < 2 ^ 54 → WholeRoot (a * 2 ^ 54) h → h < 2 ^ 54
-root-high a h A r = square-lt h (2 ^ 54) (lt-of-le-of-lt (r .low) (omega arith))
-
-pub root-low : (a h : ℕ) → 0 < a → WholeRoot (a * 2 ^ 54) h → 0 < h
-root-low a h A r =
-    let s = square-lt 1 (h + 1) (lt-of-le-of-lt (omega arith) (r .high)) in
-    omega arith
-
-pub root-near : (a h : ℕ) → 0 < a → WholeRoot (a * 2 ^ 54) h → Between (a * 2 ^ 54) ((h + 1) / 2)
-root-near a h A r = rounded (a * 2 ^ 54) h (omega arith) (root-low a h A r) r
-
 pub root-bits : (b : ℕ) (s : Scaled) (q : ℕ) → Split (patternCount b * 2 ^ 1074) s → Between (s .m * 2 ^ (s .j % 2) * 2 ^ 54) q
     → Rooted b ((s .j / 2 - 26) * 2 ^ 52 + q)
 root-bits b s q p r =
@@ -83,6 +74,10 @@ root-of-field b f q e lo hi r =
     (subst (λ (x : ℕ). Between ((b % 2 ^ 52 + 2 ^ 52) * 2 ^ ((x + 1073) % 2) * 2 ^ 54) q) (sym e) r)
 
 -- ---- `squareRoot`, by the tests that the code makes
+pub of-nan : (x : Float) → ne x x ≡ true → x ≡ squareRoot x
+unfolding squareRoot
+of-nan x e = rw (differs-from-itself x (subst T (sym e) tt))
+
 -- a zero, of either sign
 pub at-zero : (x : Float) → eq x zero64 ≡ true → x ≡ squareRoot x
 unfolding eq squareRoot

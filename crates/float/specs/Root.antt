@@ -4,10 +4,8 @@ use Prim.Native.Nat.{ℕ, zero, suc, _+_, _-_, _*_, _/_, _^_, compare}
 use mathlib.Core.Bool.{true, false, cond}
 use lib.Dec.{leb}
 use lib.Ieee.{Float, nan, inf, fin, binary64, prec, low, size, nearest, units, ofBits, toBits}
+use Rattle.whole_roots.specs.Roots.{square}
 use Rattle.float.specs.Exact.{count}
-
-abbrev pub square : ℕ → ℕ
-square a = a * a
 
 -- The whole square root of n, from r, the one of n / 4: 2 * r + 1 if its square is at most n, and 2 * r otherwise.
 unfoldable pub digit : ℕ → ℕ → ℕ

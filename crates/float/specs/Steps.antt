@@ -2,34 +2,9 @@
 use Prim.Native.Nat.{ℕ, zero, suc, _+_, _*_, _/_, _%_, _^_, _≤_, _<_}
 use mathlib.Core.Path.{_≡_}
 use lib.Ieee.{binary64, ofBits}
-use Rattle.float.specs.Root.{square, nearestRoot}
-use Rattle.float.specs.declared.Digits.{Digits}
+use Rattle.whole_roots.specs.Roots.{square}
+use Rattle.float.specs.Root.{nearestRoot}
 use Rattle.float.specs.declared.Scaled.{Scaled}
-
--- the root so far, what its square leaves, and the digits to come, as one number that grows fourfold with each digit
-abbrev pub total : Digits → ℕ
-total s = (square (s .root) + s .rest) * 2 ^ 54 + s .digits
-
-pub record Ready (s : Digits) : Type 0 where
-  pub rest : s .rest ≤ 2 * s .root
-  pub digits : s .digits < 2 ^ 54
-
-pub record Extended (s r : Digits) : Type 0 where
-  pub ready : Ready r
-  pub root : r .root ≤ 2 * s .root + 1
-  pub exact : total r ≡ 4 * total s
-
--- r is the whole square root of n
-pub record WholeRoot (n r : ℕ) : Type 0 where
-  pub low : square r ≤ n
-  pub high : n < square (r + 1)
-
--- n lies strictly between the squares of the two odd numbers next to 2 * q: q is the whole number nearest to the root of n / 4
-pub record Between (n q : ℕ) : Type 0 where
-  pub odd : ℕ
-  pub next : odd + 1 ≡ 2 * q
-  pub above : square odd < n
-  pub under : n < square (odd + 2)
 
 -- the count of 2 ^ -1074 that the exponent's field f and the digits t stand for
 abbrev pub fieldCount : ℕ → ℕ → ℕ

@@ -6,10 +6,15 @@ ghost use lib.Ieee.{binary64, ofBits};
 ghost use lib.Ieee.Scale.{finite};
 ghost use Rattle.float.specs.Exact.{abs};
 ghost use Rattle.float.specs.Root.{squareRoot, squareRootBits};
-ghost use Rattle.float.specs.Steps.{Ready, Extended, WholeRoot, Between, Split, Rooted, SquareTerm, Clear, patternCount};
+ghost use Rattle.float.specs.Steps.{Split, Rooted, SquareTerm, Clear, patternCount};
 
 // The bit pattern of 1.0.
 const ONE: u64 = 0x3ff0_0000_0000_0000;
+
+// The patterns within 2^26 of it.
+const NEAR_ONE_FIRST: u64 = 0x3fef_ffff_fc00_0000;
+
+const NEAR_ONE_LAST: u64 = 0x3ff0_0000_0400_0000;
 
 // The bit pattern of +infinity: those of the finite numbers that are not below zero lie below it.
 const INFINITY: u64 = 0x7ff0_0000_0000_0000;
@@ -39,8 +44,25 @@ pub fn magnitude(x: f64) -> f64
     f64::from_bits(f64::to_bits(x) % 0x8000_0000_0000_0000)
 }
 
-// The square root, correctly rounded.
+// The square root, correctly rounded. Near 1, where the norms of rotations are, it is small enough for the compiler to put it in its
+// caller's place; elsewhere it is a call.
 pub fn sqrt(x: f64) -> f64
+    ensures { λ r. ⌜ r ≡ squareRoot x ⌝ }
+{
+    if x != x {
+        return x;
+    }
+    let b = f64::to_bits(x);
+    if b >= NEAR_ONE_FIRST {
+        if b <= NEAR_ONE_LAST {
+            return f64::from_bits(root_bits_near_one(b));
+        }
+    }
+    general_sqrt(x)
+}
+
+// The same, for arguments that are seldom near 1.
+pub fn general_sqrt(x: f64) -> f64
     ensures { λ r. ⌜ r ≡ squareRoot x ⌝ }
 {
     if x > 0.0 {
@@ -80,8 +102,8 @@ fn root_bits(b: u64) -> u64
     requires { ⌜ b < 0x7ff0_0000_0000_0000 ⌝ }
     ensures { λ r. ⌜ Rooted b r ⌝ }
 {
-    if b >= 0x3fef_ffff_fc00_0000 {
-        if b <= 0x3ff0_0000_0400_0000 {
+    if b >= NEAR_ONE_FIRST {
+        if b <= NEAR_ONE_LAST {
             return root_bits_near_one(b);
         }
     }
@@ -96,7 +118,8 @@ fn root_bits(b: u64) -> u64
     let s = split(b);
     let m = s.m;
     let j = s.j;
-    let q = nearest_root(m << (j % 2));
+    let a = m << (j % 2);
+    let q = whole_roots::nearest_root(a, guess(a));
     (j / 2 - 26) * 0x10_0000_0000_0000 + q
 }
 
@@ -176,27 +199,6 @@ fn split(b: u64) -> Scaled
     }
 }
 
-// The whole number nearest to the root of a * 2^52: a guess or its neighbour if that is confirmed, and else by digits.
-fn nearest_root(a: u64) -> u64
-    requires { ⌜ 2 ^ 52 ≤ a ⌝ }
-    requires { ⌜ a < 2 ^ 54 ⌝ }
-    ensures { λ r. ⌜ Between (a * 2 ^ 54) r ⌝ }
-{
-    let q = guess(a);
-    if is_nearest_root(a, q) {
-        return q;
-    }
-    let up = q + 1;
-    if is_nearest_root(a, up) {
-        return up;
-    }
-    let down = q - 1;
-    if is_nearest_root(a, down) {
-        return down;
-    }
-    (whole_root(a) + 1) / 2
-}
-
 // The bits of a / 2^52.
 fn fraction_bits(a: u64) -> u64
     requires { ⌜ 2 ^ 52 ≤ a ⌝ }
@@ -230,92 +232,4 @@ fn guess(a: u64) -> u64
         return 1;
     }
     f64::to_bits(r) % 0x10_0000_0000_0000 + 0x10_0000_0000_0000
-}
-
-// Whether q is found to be the whole number nearest to the root of a * 2^52: with o = 2 * q - 1, a * 2^54 is above o * o,
-// by less than the next odd square is. The square is taken by halves of o. A no says nothing.
-fn is_nearest_root(a: u64, q: u64) -> bool
-    requires { ⌜ a < 2 ^ 54 ⌝ }
-    ensures { λ r. ⌜ (r ≡ true → Between (a * 2 ^ 54) q) ⌝ }
-{
-    if q < 1 {
-        return false;
-    }
-    if q > 0x1f_ffff_ffff_ffff {
-        return false;
-    }
-    let o = q * 2 - 1;
-    let high = o >> 27;
-    let low = o % 0x800_0000;
-    let first = high * high;
-    if a < first {
-        return false;
-    }
-    let s = a - first;
-    if s > 0x1fff_ffff {
-        return false;
-    }
-    let second = high * low * 2;
-    if s * 0x800_0000 < second {
-        return false;
-    }
-    let t = s * 0x800_0000 - second;
-    if t > 0xffff_ffff {
-        return false;
-    }
-    let third = low * low;
-    if t * 0x800_0000 <= third {
-        return false;
-    }
-    t * 0x800_0000 - third < o * 4 + 4
-}
-
-// The root so far, what its square leaves of the radicand's digits taken so far, and the digits to come.
-struct Digits {
-    root: u64,
-    rest: u64,
-    digits: u64,
-}
-
-// One binary digit more of the root, for two more of the radicand.
-fn next_digit(s: Digits) -> Digits
-    requires { ⌜ Ready s ⌝ }
-    requires { ⌜ s .root < 2 ^ 53 ⌝ }
-    ensures { λ r. ⌜ Extended s r ⌝ }
-{
-    let root = s.root;
-    let digits = s.digits;
-    let rest = s.rest * 4 + (digits >> 52);
-    let trial = root * 4 + 1;
-    if trial <= rest {
-        Digits {
-            root: root * 2 + 1,
-            rest: rest - trial,
-            digits: (digits % 0x10_0000_0000_0000) * 4,
-        }
-    } else {
-        Digits {
-            root: root * 2,
-            rest,
-            digits: (digits % 0x10_0000_0000_0000) * 4,
-        }
-    }
-}
-
-// The whole square root of a * 2^54, digit by digit.
-fn whole_root(a: u64) -> u64
-    requires { ⌜ a < 2 ^ 54 ⌝ }
-    ensures { λ r. ⌜ WholeRoot (a * 2 ^ 54) r ⌝ }
-{
-    let mut s = Digits {
-        root: 0,
-        rest: 0,
-        digits: a,
-    };
-    let mut i = 0u64;
-    while i < 54 {
-        s = next_digit(s);
-        i += 1;
-    }
-    s.root
 }

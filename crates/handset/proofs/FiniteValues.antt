@@ -1,53 +1,26 @@
--- The values that are stored are finite: each of an element with finite values is, and every answer that is an element has finite values. Assumes nothing.
-use Prim.Native.Nat.{ℕ, zero, suc, _*_, _<_}
+-- The values that are stored are finite: every answer that is an element has finite values. Assumes nothing.
+use Prim.Native.Nat.{ℕ, zero, suc, _*_}
 use mathlib.Core.Path.{_≡_, refl, sym, ap, _∙_}
 use mathlib.Core.Bool.{Bool, true, false}
-use mathlib.Core.List.{List, [], _∷_, _++_}
-use lib.Dec.{lit<}
+use mathlib.Core.List.{List}
 use lib.ListN.{take, drop}
 use lib.Ieee.{Float}
-use lib.Ieee.Scale.{finite}
 use Rattle.checks.specs.Checks.{tolerance, allFinite, checkParamBlock}
 use Rattle.checks.specs.declared.Check.{Check}
 use Rattle.checks.specs.declared.Check.the-variants.{Passed, Refused as Check·Refused}
-use Rattle.checks.proofs.Finite.{finite-at, finite-append}
 use Rattle.checks.proofs.Passed.{passed-finite}
 use Rattle.sgal3.specs.Elements as Elements
 use Rattle.sgal3.specs.Elements.{elementOf}
 use Rattle.sgal3.specs.declared.Element.{Element}
+use Rattle.element_bytes.specs.Bytes.{valuesAt}
+use Rattle.element_bytes.proofs.Values.{eleven}
+use Rattle.byte_chain.specs.Steps.{chainAfter}
 use Rattle.sgal3_composition.specs.Calls.{ofCheck, checkElement, elementAnswer, firstRefusal, composeAnswers, chainFrom}
 use Rattle.sgal3_composition.specs.declared.Answer.{Answer}
 use Rattle.sgal3_composition.specs.declared.Answer.the-variants.{Done, Refused}
-use Rattle.handset.specs.Blocks.{valuesAt}
-use Rattle.handset.specs.Steps.{vectorValues, quaternionValues, Finite, chainAfter}
 use Rattle.sgal3_composition.proofs.Answers.{finished, overflowed}
-use Rattle.handset.proofs.ByteBlocks.{eleven}
+use Rattle.handset.specs.Steps.{Finite}
 
--- ---- the values of an element
-module _ (e : Element) (h : allFinite (Elements.coeffs e) ≡ true) where
-  after-translation : (allFinite (vectorValues (e .translation)) ≡ true) × (allFinite (quaternionValues (e .rotation) ++ (vectorValues (e .velocity) ++ (e .time ∷ []))) ≡ true)
-  unfolding Elements.coeffs
-  after-translation = finite-append (vectorValues (e .translation)) _ h
-
-  after-rotation : (allFinite (quaternionValues (e .rotation)) ≡ true) × (allFinite (vectorValues (e .velocity) ++ (e .time ∷ [])) ≡ true)
-  after-rotation = finite-append (quaternionValues (e .rotation)) _ (after-translation .1)
-
-  after-velocity : (allFinite (vectorValues (e .velocity)) ≡ true) × (allFinite (e .time ∷ []) ≡ true)
-  after-velocity = finite-append (vectorValues (e .velocity)) _ (after-rotation .1)
-
-  pub translation-finite : allFinite (vectorValues (e .translation)) ≡ true
-  translation-finite = after-translation .0
-
-  pub rotation-finite : allFinite (quaternionValues (e .rotation)) ≡ true
-  rotation-finite = after-rotation .0
-
-  pub velocity-finite : allFinite (vectorValues (e .velocity)) ≡ true
-  velocity-finite = after-velocity .0
-
-  pub time-finite : finite (e .time) ≡ true
-  time-finite = finite-at _ (after-velocity .1) 0 (lit< tt)
-
--- ---- the answers
 pub answer-finite : (e : Element) → Finite (elementAnswer e)
 unfolding Finite
 answer-finite e = go (allFinite (Elements.coeffs e)) refl

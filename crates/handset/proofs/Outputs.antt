@@ -12,11 +12,12 @@ use Rattle.sgal3.specs.Elements as Elements
 use Rattle.checks.specs.declared.Refusal.{Refusal}
 use Rattle.checks.specs.declared.Refusal.the-variants.{Length, NotFinite, NotUnit, Turn, Overflow}
 use Rattle.checks.proofs.Order.{Picked, left, right, picked}
+use Rattle.element_bytes.specs.Bytes.{valuesAt}
+use Rattle.byte_chain.specs.Blocks as Blocks
+use Rattle.byte_chain.proofs.ByteBlocks.{passed, refused, block-of, no-block}
 use Rattle.sgal3_composition.specs.Calls as Calls
 use Rattle.sgal3_composition.specs.declared.Answer.{Answer}
 use Rattle.sgal3_composition.specs.declared.Answer.the-variants.{Done, Refused}
-use Rattle.handset.specs.Blocks as Blocks
-use Rattle.handset.proofs.ByteBlocks.{passed, refused}
 use Rattle.handset.specs.Entries.{number, written, Answered, into}
 
 pub right-length : (out : List ℕ) (a : Answer) → length out ≡ 88 → into out a ≡ a
@@ -74,14 +75,6 @@ taken-output out after a b r e p h =
     }
 
 -- ---- of the right length: an input of another
-pub block-of : (s : List ℕ) → length s ≡ 88 → Blocks.checkBlock s ≡ Calls.checkElement (Blocks.valuesAt 11 s 0) tolerance
-unfolding Blocks.checkBlock
-block-of s e = rw (eq-eqb _ _ e)
-
-pub no-block : (s : List ℕ) → (length s ≡ 88 → ⊥) → Blocks.checkBlock s ≡ Refused (Length 88 (length s))
-unfolding Blocks.checkBlock
-no-block s e = rw (ne-eqb _ _ e)
-
 pub refused-input : (out : List ℕ) (b : Answer) → length out ≡ 88 → number b ≡ 1 → written b out ≡ out → Answered (into out b) out out 1
 refused-input out b e n w = taken-output out out b b 1 e refl (sym n, sym w)
 
@@ -131,15 +124,15 @@ pub refused-right : (s out : List ℕ) (a : Answer) → length out ≡ 88 → (l
 refused-right s out a o e = rw (no-block s e, right-first) (refused-input out _ o (first-number a 88 (length s)) (first-written a 88 (length s) out))
 
 -- ---- the inverse, and a refusal's number
-pub inverse-passed : (s : List ℕ) → length s ≡ 88 → checkParamBlock (Blocks.valuesAt 11 s 0) 11 3 tolerance ≡ Passed
-    → Calls.elementAnswer (Elements.inverse (Elements.elementOf (Blocks.valuesAt 11 s 0))) ≡ Calls.inverseAnswer (Blocks.checkBlock s)
+pub inverse-passed : (s : List ℕ) → length s ≡ 88 → checkParamBlock (valuesAt 11 s 0) 11 3 tolerance ≡ Passed
+    → Calls.elementAnswer (Elements.inverse (Elements.elementOf (valuesAt 11 s 0))) ≡ Calls.inverseAnswer (Blocks.checkBlock s)
 unfolding Calls.inverseAnswer
-inverse-passed s e p = rw (block-of s e, passed (Blocks.valuesAt 11 s 0) tolerance p)
+inverse-passed s e p = rw (block-of s e, passed (valuesAt 11 s 0) tolerance p)
 
-pub inverse-refused : (s : List ℕ) (q : Refusal) → length s ≡ 88 → checkParamBlock (Blocks.valuesAt 11 s 0) 11 3 tolerance ≡ Check·Refused q
+pub inverse-refused : (s : List ℕ) (q : Refusal) → length s ≡ 88 → checkParamBlock (valuesAt 11 s 0) 11 3 tolerance ≡ Check·Refused q
     → Refused q ≡ Calls.inverseAnswer (Blocks.checkBlock s)
 unfolding Calls.inverseAnswer
-inverse-refused s q e p = rw (block-of s e, refused (Blocks.valuesAt 11 s 0) tolerance q p)
+inverse-refused s q e p = rw (block-of s e, refused (valuesAt 11 s 0) tolerance q p)
 
 pub refusal-output : (out : List ℕ) (q : Refusal) (b : Answer) (n : ℕ) → length out ≡ 88 → Refused q ≡ b → n ≡ Refusals.number q → Answered (into out b) out out n
 unfolding number written

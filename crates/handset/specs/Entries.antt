@@ -7,10 +7,11 @@ use lib.Dec.{eqb}
 use lib.ListN.{length}
 use Rattle.checks.specs.Refusals as Refusals
 use Rattle.checks.specs.declared.Refusal.the-variants.{Length}
+use Rattle.element_bytes.specs.Bytes.{elementBytes}
+use Rattle.byte_chain.specs.Blocks as Blocks
 use Rattle.sgal3_composition.specs.Calls as Calls
 use Rattle.sgal3_composition.specs.declared.Answer.{Answer}
 use Rattle.sgal3_composition.specs.declared.Answer.the-variants.{Done, Refused}
-use Rattle.handset.specs.Blocks as Blocks
 
 -- 0 for an answer, or the refusal's number
 unfoldable pub number : Answer → ℕ
@@ -19,7 +20,7 @@ number (Refused r) = Refusals.number r
 
 -- the output after a call: the element's bytes, or what it held before
 unfoldable pub written : Answer → List ℕ → List ℕ
-written (Done e) out = Blocks.elementBytes e
+written (Done e) out = elementBytes e
 written (Refused r) out = out
 
 -- what an entry ensures: its number, the output after it, and that a refusal leaves the output as it was

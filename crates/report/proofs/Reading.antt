@@ -9,7 +9,7 @@ use lib.Dec.{ltb}
 use lib.ListN.{length, take}
 use lib.Seq.{take-all, length-take-le}
 use Rattle.checks.specs.Refusals.{number}
-use Rattle.handset.specs.Blocks as Blocks
+use Rattle.byte_chain.specs.Blocks as Blocks
 use Rattle.report_lines.specs.Lines.{refusal}
 use Rattle.report.specs.Text.{text, reportOf}
 

@@ -7,7 +7,7 @@ use Rattle.checks.specs.Refusals.{number}
 use Rattle.sgal3.specs.Elements.{coeffs}
 use Rattle.sgal3_composition.specs.declared.Answer.{Answer}
 use Rattle.sgal3_composition.specs.declared.Answer.the-variants.{Done, Refused}
-use Rattle.handset.specs.Blocks as Blocks
+use Rattle.byte_chain.specs.Blocks as Blocks
 use Rattle.report_lines.specs.Lines.{lines, refusal}
 
 unfoldable pub text : Answer → List ℕ

@@ -11,9 +11,10 @@ use lib.Ieee.{Float, nan, inf, fin, binary64, size, nearest, odd, units, fits}
 use lib.Ieee.Digits.{back}
 use lib.Ieee.Fits.{odd-fits, nearest-le, nan-fits}
 use Rattle.float.specs.Exact.{shift, count, negative}
-use Rattle.float.specs.Root.{square, digit, isqrt, nearestRoot, squareRoot}
+use Rattle.whole_roots.specs.Roots.{square}
+use Rattle.whole_roots.proofs.Squares.{square-lt}
+use Rattle.float.specs.Root.{digit, isqrt, nearestRoot, squareRoot}
 use Rattle.float.proofs.Counts.{counted, digits}
-use Rattle.float.proofs.Isqrt.{square-lt}
 use Rattle.float.proofs.Rounding.{Rounding, rounding}
 use Rattle.rounding.specs.Number.{Number, one}
 use Rattle.rounding.specs.Error.{Within, RoundedRoot, Nearer}

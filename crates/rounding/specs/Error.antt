@@ -1,7 +1,7 @@
 -- What "at most so far apart" says, over whole numbers. Definitions only.
 use Prim.Native.Nat.{ℕ, _+_, _-_, _*_, _^_, _≤_, _<_}
 use lib.IntN.{ℤ, natAbs, _+ℤ_, _-ℤ_}
-use Rattle.float.specs.Root.{square}
+use Rattle.whole_roots.specs.Roots.{square}
 
 -- |a - b| ≤ d, with no difference
 pub record Within (a b d : ℕ) : Type 0 where

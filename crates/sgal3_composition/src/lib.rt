@@ -7,6 +7,7 @@ use sgal3::Element;
 ghost use mathlib.Core.Path.{_≡_};
 ghost use Prim.Native.Nat.{_/_};
 ghost use lib.ListN.{length};
+ghost use Rattle.checks.specs.Checks.{allFinite};
 ghost use Rattle.sgal3.specs.Elements as Elements;
 ghost use Rattle.sgal3_composition.specs.Calls as Calls;
 
@@ -16,12 +17,28 @@ pub enum Answer {
     Refused(Refusal),
 }
 
+// Whether all values are finite. A sum with one that is not is not finite, so one test tells of all, unless the sum itself overflows. It
+// is taken in pairs, as the compiler holds the values.
+fn is_finite(a: Element) -> bool
+    ensures { λ r. ⌜ r ≡ allFinite (Elements.coeffs a) ⌝ }
+{
+    let t = a.translation;
+    let q = a.rotation;
+    let v = a.velocity;
+    let first = t.x + q.w + (q.y + v.x);
+    let second = t.y + q.x + (q.z + v.y);
+    if float::is_finite(first + second + (t.z + v.z + a.time)) {
+        return true;
+    }
+    let values = a.coeffs();
+    checks::all_finite(&values)
+}
+
 // An answer whose values are finite, or the refusal.
 pub fn element_answer(a: Element) -> Answer
     ensures { λ r. ⌜ r ≡ Calls.elementAnswer a ⌝ }
 {
-    let values = a.coeffs();
-    if checks::all_finite(&values) {
+    if is_finite(a) {
         Answer::Done(a)
     } else {
         Answer::Refused(Refusal::Overflow)

@@ -14,7 +14,8 @@ use Rattle.float.specs.Exact.{exact}
 use Rattle.words.specs.Word.{valueAt, wordAt}
 use Rattle.sgal3.specs.declared.Element.{Element}
 use Rattle.sgal3_composition.specs.declared.Answer.the-variants.{Done}
-use Rattle.handset.specs.Blocks.{valuesAt, chainBlocks, chain}
+use Rattle.element_bytes.specs.Bytes.{valuesAt}
+use Rattle.byte_chain.specs.Blocks.{chainBlocks, chain}
 use Rattle.time_sum.specs.RunningSum.{blocks, exactSum, magnitudeSum}
 use Rattle.time_sum.proofs.Times.{passed}
 use Rattle.time_sum.proofs.TimeSum.{Values, values-blocks, chained, one-less}

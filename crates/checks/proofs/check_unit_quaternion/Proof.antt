@@ -11,7 +11,7 @@ returns c = sym (c .before .passes-without-root .ensures (c .if1 .taken))
 
 returns-2 : tie.Need-returns-2
 unfolding checkUnitQuaternion normOf
-returns-2 c = rw (c .check-norm .ensures, c .before .sqrt .ensures)
+returns-2 c = rw (c .check-norm .ensures, c .before .general-sqrt .ensures)
 
 pub check-unit-quaternion-spec : {M : Type 1} → statement M
 check-unit-quaternion-spec =

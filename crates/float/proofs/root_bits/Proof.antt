@@ -3,32 +3,37 @@ use mathlib.Core.Path.{subst}
 use Prim.Native.Nat.{ℕ, _*_, _%_, _^_}
 use native.Mathlib.Omega.{arith}
 use borrow.Author.Needs.{needs}
-use Rattle.float.specs.Steps.{Between}
+use Rattle.whole_roots.specs.Roots.{Between}
 use Rattle.float.proofs.SquareRoot.{even-of, same, near-high, root-bits}
 use Rattle.float.proofs.root_bits.Statement.{statement}
 use Rattle.float.proofs.root_bits.Tie as tie
 
-nearest-root-requires : tie.Need-nearest-root-requires
-nearest-root-requires c κs =
+guess-requires : tie.Need-guess-requires
+guess-requires c κs =
     let m = c .split .result .m in
     let j = c .split .result .j in
     let e = even-of m j (c .split .ensures .low) (c .split .ensures .high) in
     omega (arith, same m (j % 2) e, e .high, e .low)
 
+nearest-root-requires : tie.Need-nearest-root-requires
+nearest-root-requires c κs =
+    let a = guess-requires (c .before) κs in
+    (a .0, (a .1, c .guess .ensures))
+
 -- what `nearest_root` ensures, with nothing shifted out
-near : (c : tie.After-nearest-root) → Between (c .before .split .result .m * 2 ^ (c .before .split .result .j % 2) * 2 ^ 54) (c .nearest-root .result)
+near : (c : tie.After-nearest-root) → Between (c .before .before .split .result .m * 2 ^ (c .before .before .split .result .j % 2) * 2 ^ 54) (c .nearest-root .result)
 near c =
-    let m = c .before .split .result .m in
-    let j = c .before .split .result .j in
-    let e = even-of m j (c .before .split .ensures .low) (c .before .split .ensures .high) in
+    let m = c .before .before .split .result .m in
+    let j = c .before .before .split .result .j in
+    let e = even-of m j (c .before .before .split .ensures .low) (c .before .before .split .ensures .high) in
     subst (λ (a : ℕ). Between (a * 2 ^ 54) (c .nearest-root .result)) (same m (j % 2) e) (c .nearest-root .ensures)
 
 add-result : tie.Need-add-result
 add-result c =
-    let m = c .before .split .result .m in
-    let j = c .before .split .result .j in
-    let e = even-of m j (c .before .split .ensures .low) (c .before .split .ensures .high) in
-    omega (arith, near-high (m * 2 ^ (j % 2)) (c .nearest-root .result) (e .high) (near c), c .before .split .ensures .near)
+    let m = c .before .before .split .result .m in
+    let j = c .before .before .split .result .j in
+    let e = even-of m j (c .before .before .split .ensures .low) (c .before .before .split .ensures .high) in
+    omega (arith, near-high (m * 2 ^ (j % 2)) (c .nearest-root .result) (e .high) (near c), c .before .before .split .ensures .near)
 
 returns : tie.Need-returns
 returns c = c .root-bits-near-one .ensures
@@ -40,7 +45,7 @@ returns-2 : tie.Need-returns-2
 returns-2 c = c .root-bits-by-square .ensures
 
 returns-3 : tie.Need-returns-3
-returns-3 c = root-bits _ (c .before .split .result) (c .nearest-root .result) (c .before .split .ensures) (near c)
+returns-3 c = root-bits _ (c .before .before .split .result) (c .nearest-root .result) (c .before .before .split .ensures) (near c)
 
 pub root-bits-spec : {M : Type 1} → statement M
 root-bits-spec =
@@ -54,6 +59,7 @@ root-bits-spec =
     returns-2
     (λ c κs. search needs)
     (λ c. search needs)
+    guess-requires
     nearest-root-requires
     (λ c. search needs)
     (λ c. search needs)

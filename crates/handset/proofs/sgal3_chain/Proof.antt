@@ -3,7 +3,7 @@ use mathlib.Core.Path.{sym, _∙_}
 use borrow.Author.Needs.{needs}
 use Rattle.handset.specs.Entries as Entries
 use Rattle.handset.proofs.Outputs.{refused-output, refused-length, taken-output}
-use Rattle.handset.proofs.Chains.{after-identity, too-long, not-whole, whole-blocks}
+use Rattle.byte_chain.proofs.Chains.{after-identity, too-long, not-whole, whole-blocks}
 use Rattle.handset.proofs.sgal3_chain.Statement.{statement}
 use Rattle.handset.proofs.sgal3_chain.Tie as tie
 

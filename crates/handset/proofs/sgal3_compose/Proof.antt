@@ -2,7 +2,7 @@
 use borrow.Author.Needs.{needs}
 use Rattle.handset.specs.Entries as Entries
 use Rattle.handset.proofs.Outputs.{refused-output, refused-left, refused-right, taken-output}
-use Rattle.handset.proofs.Chains.{one-block}
+use Rattle.byte_chain.proofs.Chains.{one-block}
 use Rattle.handset.proofs.sgal3_compose.Statement.{statement}
 use Rattle.handset.proofs.sgal3_compose.Tie as tie
 

@@ -2,7 +2,7 @@
 use mathlib.Core.Path.{ap, _∙_}
 use borrow.Author.Needs.{needs}
 use lib.ListN.{length}
-use Rattle.handset.proofs.ByteBlocks.{whole, whole-chain}
+use Rattle.byte_chain.proofs.ByteBlocks.{whole, whole-chain}
 use Rattle.handset.proofs.FiniteValues.{after-finite}
 use Rattle.handset.proofs.store_chain.Statement.{statement}
 use Rattle.handset.proofs.store_chain.Tie as tie

@@ -1,7 +1,7 @@
 -- `requests::check_call` meets its contract. Assumes nothing.
 use borrow.Author.Tests.{ne-eqb}
 use Rattle.requests.specs.Requests as Requests
-use Rattle.requests.proofs.Answers.{none}
+use Rattle.outcomes.proofs.Numbers.{none}
 use Rattle.requests.proofs.check_call.Statement.{statement}
 use Rattle.requests.proofs.check_call.Tie as tie
 

@@ -1,0 +1,2 @@
+pub mod ByteBlocks
+pub mod Chains
