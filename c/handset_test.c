@@ -101,6 +101,19 @@ static uint32_t compose_refused(const uint8_t *left, size_t left_len, const uint
     return unless_changed(number, out, out_len);
 }
 
+static uint32_t in_place_refused(const uint8_t *left, size_t left_len, const uint8_t *right,
+                                 size_t right_len) {
+    uint8_t *held = filled(left_len);
+    uint32_t number;
+    memcpy(held, left, left_len);
+    number = sgal3_compose_in_place(held, left_len, right, right_len);
+    if (memcmp(held, left, left_len) != 0) {
+        number = 0;
+    }
+    memset(held, FILL, left_len);
+    return unless_changed(number, held, left_len);
+}
+
 static uint32_t inverse_refused(const uint8_t *block, size_t len, size_t out_len) {
     uint8_t *out = filled(out_len);
     uint32_t number = sgal3_inverse(block, len, out, out_len);
@@ -122,6 +135,8 @@ static int refused_everywhere(const uint8_t *block, uint32_t number) {
     memcpy(blocks + BYTES, block, BYTES);
     return compose_refused(block, BYTES, good, BYTES, BYTES) == number &&
            compose_refused(good, BYTES, block, BYTES, BYTES) == number &&
+           in_place_refused(block, BYTES, good, BYTES) == number &&
+           in_place_refused(good, BYTES, block, BYTES) == number &&
            inverse_refused(block, BYTES, BYTES) == number &&
            chain_refused(blocks, sizeof blocks, BYTES) == number;
 }
@@ -143,6 +158,9 @@ static void worked_examples(void) {
     CHECK(holds(out, a_then_b));
     CHECK(sgal3_chain(blocks, 0, out, BYTES) == HANDSET_DONE);
     CHECK(holds(out, IDENTITY));
+    memcpy(out, blocks, BYTES);
+    CHECK(sgal3_compose_in_place(out, BYTES, blocks + BYTES, BYTES) == HANDSET_DONE);
+    CHECK(holds(out, a_then_b));
     /* the inputs may be one buffer */
     CHECK(sgal3_compose(blocks, BYTES, blocks, BYTES, out, BYTES) == HANDSET_DONE);
     CHECK(pattern_at(out + 8 * TIME) == pattern(1.0));
@@ -163,6 +181,8 @@ static void length(void) {
         CHECK(compose_refused(a, wrong[i], b, BYTES, BYTES) == HANDSET_LENGTH);
         CHECK(compose_refused(b, BYTES, a, wrong[i], BYTES) == HANDSET_LENGTH);
         CHECK(compose_refused(a, BYTES, b, BYTES, wrong[i]) == HANDSET_LENGTH);
+        CHECK(in_place_refused(a, wrong[i], b, BYTES) == HANDSET_LENGTH);
+        CHECK(in_place_refused(b, BYTES, a, wrong[i]) == HANDSET_LENGTH);
         CHECK(inverse_refused(a, wrong[i], BYTES) == HANDSET_LENGTH);
         CHECK(inverse_refused(a, BYTES, wrong[i]) == HANDSET_LENGTH);
         CHECK(chain_refused(a, BYTES, wrong[i]) == HANDSET_LENGTH);
@@ -225,6 +245,7 @@ static void overflow(void) {
     late.values[TIME] = -DBL_MAX;
     put(blocks + 2 * BYTES, late);
     CHECK(compose_refused(blocks, BYTES, blocks + BYTES, BYTES, BYTES) == HANDSET_OVERFLOW);
+    CHECK(in_place_refused(blocks, BYTES, blocks + BYTES, BYTES) == HANDSET_OVERFLOW);
     CHECK(chain_refused(blocks, sizeof blocks, BYTES) == HANDSET_OVERFLOW);
     put(blocks, fast);
     CHECK(inverse_refused(blocks, BYTES, BYTES) == HANDSET_OVERFLOW);
@@ -286,12 +307,13 @@ static void set_17_keeps_its_slot(void) {
         put(step, e);
         time += e.values[TIME];
 
-        CHECK(take(set_12, step) == HANDSET_DONE);
+        CHECK(sgal3_compose_in_place(set_12, BYTES, step, BYTES) == HANDSET_DONE);
         if (i == STEPS / 2) {
             memcpy(before, set_17, BYTES);
             memcpy(bad, step, BYTES);
             put_pattern(bad + 8 * TIME, 0x7ff8000000000000);
             CHECK(take(set_17, bad) == HANDSET_NOT_FINITE);
+            CHECK(sgal3_compose_in_place(set_17, BYTES, bad, BYTES) == HANDSET_NOT_FINITE);
             CHECK(memcmp(set_17, before, BYTES) == 0);
         }
         CHECK(take(set_17, step) == HANDSET_DONE);

@@ -1,4 +1,4 @@
-/* Galilean motion steps on byte blocks: compose, inverse and the chain.
+/* Galilean motion steps on byte blocks: compose, also in place, inverse and the chain.
  *
  * An element is eleven binary64 values of IEEE 754, each little-endian: translation (3), quaternion
  * w, x, y, z, velocity (3), time. Each call returns 0 and stores its answer, or returns the number of
@@ -44,6 +44,11 @@ enum handset_number {
  * that of as many bytes as its length says; `out` overlaps neither input. The inputs may overlap. */
 uint32_t sgal3_compose(const uint8_t *left, size_t left_len, const uint8_t *right, size_t right_len,
                        uint8_t *out, size_t out_len);
+
+/* The same, stored over the left block: `step` taken after the element held. A refusal leaves `held` as it
+ * was. No pointer is null, whatever the length beside it; each is that of as many bytes as its length
+ * says; `held` doesn't overlap `step`. */
+uint32_t sgal3_compose_in_place(uint8_t *held, size_t held_len, const uint8_t *step, size_t step_len);
 
 /* The step that undoes `block`. No pointer is null, whatever the length beside it; each is that of
  * as many bytes as its length says; `out` doesn't overlap `block`. */

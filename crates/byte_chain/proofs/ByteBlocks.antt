@@ -1,6 +1,6 @@
 -- A chain of byte blocks, block by block. Assumes nothing.
 use Prim.Native.Nat.{ℕ, suc, _+_, _-_, _*_, _/_, _≤_, _<_}
-use mathlib.Core.Path.{_≡_, refl, ap, _∙_}
+use mathlib.Core.Path.{_≡_, refl, sym, ap, _∙_}
 use mathlib.Core.List.{List, [], _∷_, _++_}
 use native.Mathlib.Omega.{arith}
 use lib.ListN.{length, take, drop}
@@ -11,6 +11,7 @@ use Rattle.checks.specs.Refusals.{earlier}
 use Rattle.checks.specs.Checks.{tolerance, checkParamBlock}
 use Rattle.checks.specs.declared.Refusal.{Refusal}
 use Rattle.checks.specs.declared.Refusal.the-variants.{Length}
+use Rattle.checks.specs.declared.Check.{Check}
 use Rattle.checks.specs.declared.Check.the-variants.{Passed, Refused as Check·Refused}
 use Rattle.sgal3.specs.Elements as Elements
 use Rattle.sgal3.specs.Elements.{elementOf}
@@ -21,7 +22,7 @@ use Rattle.sgal3_composition.specs.Calls.{checkElement, elementAnswer, firstRef
 use Rattle.sgal3_composition.specs.declared.Answer.{Answer}
 use Rattle.sgal3_composition.specs.declared.Answer.the-variants.{Done, Refused}
 use Rattle.byte_chain.specs.Blocks as Blocks
-use Rattle.byte_chain.specs.Steps.{chainAfter}
+use Rattle.byte_chain.specs.Steps.{chainAfter, endedBy}
 
 -- a slice of all of a list
 pub whole : (l : List ℕ) → take (length l - 0) l ≡ l
@@ -80,6 +81,11 @@ pub stops : (a : Element) (q : Refusal) (left : ℕ) (s : List ℕ) (i : ℕ) �
 unfolding composeAnswers firstRefusal
 stops a q left s i h e = next (Done a) left s i h ∙ rw (refused (valuesAt 11 s i) tolerance q e)
 
+pub stops-by : (a : Element) (c : Check) (q : Refusal) (left : ℕ) (s : List ℕ) (i : ℕ) → 0 < left → checkParamBlock (valuesAt 11 s i) 11 3 tolerance ≡ c → c ≡ Check·Refused q
+    → chainFrom (endedBy c) (left - 1) (valuesAt ((left - 1) * 11) s (i + 88)) ≡ chainFrom (Done a) left (valuesAt (left * 11) s i)
+unfolding endedBy
+stops-by a c q left s i h e f = rw f (sym (stops a q left s i h (e ∙ f)))
+
 -- what is held is a refusal already
 pub passed-by : (r : Refusal) (left : ℕ) (s : List ℕ) (i : ℕ) → 0 < left → checkParamBlock (valuesAt 11 s i) 11 3 tolerance ≡ Passed
     → chainFrom (Refused r) left (valuesAt (left * 11) s i) ≡ chainFrom (Refused r) (left - 1) (valuesAt ((left - 1) * 11) s (i + 88))
@@ -106,8 +112,6 @@ pub after-refused : (f : List ℕ) (q : Refusal) (n : ℕ) (s : List ℕ) → ch
 unfolding chainAfter
 after-refused f q n s e = rw (refused (valuesAt 11 f 0) tolerance q e)
 
--- of slices of all of the bytes
-pub whole-chain : (f s : List ℕ) → chainAfter (take (length f - 0) f) (length (take (length s - 0) s) / 88) (take (length s - 0) s) ≡ chainAfter f (length s / 88) s
-whole-chain f s =
-    ap (λ (l : List ℕ). chainAfter l (length (take (length s - 0) s) / 88) (take (length s - 0) s)) (whole f)
-    ∙ ap (λ (l : List ℕ). chainAfter f (length l / 88) l) (whole s)
+-- of a slice of all of the bytes
+pub whole-chain : (f s : List ℕ) → chainAfter f (length (take (length s - 0) s) / 88) (take (length s - 0) s) ≡ chainAfter f (length s / 88) s
+whole-chain f s = ap (λ (l : List ℕ). chainAfter f (length l / 88) l) (whole s)

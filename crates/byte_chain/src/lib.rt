@@ -10,7 +10,7 @@ ghost use Rattle.element_bytes.specs.Bytes.{valuesAt};
 ghost use Rattle.sgal3_composition.specs.Calls.{chainFrom};
 ghost use Rattle.sgal3_composition.specs.declared.Answer.the-variants.{Done, Refused};
 ghost use Rattle.byte_chain.specs.Blocks as Blocks;
-ghost use Rattle.byte_chain.specs.Steps.{chainAfter};
+ghost use Rattle.byte_chain.specs.Steps.{chainAfter, endedBy};
 
 // Of a refusal and those of `count` blocks from start on, the one that is tried first.
 fn earliest(first: Refusal, s: &[u8], start: usize, count: usize) -> Refusal
@@ -21,16 +21,27 @@ fn earliest(first: Refusal, s: &[u8], start: usize, count: usize) -> Refusal
     let mut place = start;
     let mut held = first;
     while 0 < rest {
-        match element_bytes::check_values(s, place) {
-            Check::Passed => {}
-            Check::Refused(r) => {
-                held = held.earlier(r);
-            }
-        }
+        let at = place;
         place += 88;
         rest -= 1;
+        let Check::Refused(r) = element_bytes::check_values(s, at) else {
+            continue;
+        };
+        held = held.earlier(r);
     }
     held
+}
+
+// The answer of a chain that ends at a block, with `count` blocks after it from start on: the block's refusal, or an overflow if it
+// passed, unless one of those is tried first.
+fn ended(check: Check, s: &[u8], start: usize, count: usize) -> Answer
+    requires { ⌜ start + count * 88 ≤ length (now s) ⌝ }
+    ensures { λ r. ⌜ r ≡ chainFrom (endedBy check) count (valuesAt (count * 11) (now (s .entry)) start) ⌝ }
+{
+    let Check::Refused(r) = check else {
+        return Answer::Refused(earliest(Refusal::Overflow, s, start, count));
+    };
+    Answer::Refused(earliest(r, s, start, count))
 }
 
 // The byte blocks of s, composed one after the other with `start`. Once a block is refused or an element overflows no value
@@ -42,12 +53,10 @@ fn compose_blocks(start: Element, s: &[u8]) -> Answer
     let mut at = 0;
     let mut held = start;
     while 0 < left {
-        match element_bytes::check_values(s, at) {
-            Check::Passed => {}
-            Check::Refused(r) => {
-                return Answer::Refused(earliest(r, s, at + 88, left - 1));
-            }
-        }
+        let check = element_bytes::check_values(s, at);
+        let Check::Passed = check else {
+            return ended(check, s, at + 88, left - 1);
+        };
         held = held.compose(element_bytes::element(s, at));
         let values = held.coeffs();
         if !checks::all_finite(&values) {
@@ -64,10 +73,10 @@ pub fn chain_blocks(first: &[u8], s: &[u8]) -> Answer
     requires { ⌜ length (now first) ≡ 88 ⌝ }
     ensures { λ r. ⌜ r ≡ chainAfter (now (first .entry)) (length (now (s .entry)) / 88) (now (s .entry)) ⌝ }
 {
-    match element_bytes::check_values(first, 0) {
-        Check::Passed => compose_blocks(element_bytes::element(first, 0), s),
-        Check::Refused(r) => Answer::Refused(earliest(r, s, 0, s.len() / 88)),
-    }
+    let Check::Refused(r) = element_bytes::check_values(first, 0) else {
+        return compose_blocks(element_bytes::element(first, 0), s);
+    };
+    Answer::Refused(earliest(r, s, 0, s.len() / 88))
 }
 
 // The chain of at most `most` bytes of blocks.

@@ -1,3 +1,4 @@
 pub mod Values
 pub mod Parts
 pub mod Stored
+pub mod RoundTrips

@@ -7,10 +7,12 @@ use lib.ListN.{length}
 use lib.Seq.{sets}
 use Rattle.linear.specs.declared.Vec3.{Vec3}
 use Rattle.linear.specs.declared.Quaternion.{Quaternion}
-use Rattle.words.specs.Word.{bytesOf}
+use Rattle.words.specs.Word.{bytesOf, wordBytes}
 use Rattle.words.proofs.Stores.{join3, join4, sets-all}
+use Rattle.sgal3.specs.Elements.{coeffs}
 use Rattle.sgal3.specs.declared.Element.{Element}
-use Rattle.element_bytes.specs.Bytes.{bytes, vectorBytes, quaternionBytes, elementBytes}
+use Rattle.element_bytes.specs.Bytes.{valueBytes, elementBytes}
+use Rattle.element_bytes.specs.Steps.{bytes, vectorBytes, quaternionBytes}
 
 pub vector-sets : (l : List ℕ) (i : ℕ) (a : Vec3) → sets (sets (sets l i (bytes (a .x))) (i + 8) (bytes (a .y))) (i + 16) (bytes (a .z)) ≡ sets l i (vectorBytes a)
 unfolding vectorBytes bytesOf
@@ -21,8 +23,8 @@ pub quaternion-sets : (l : List ℕ) (i : ℕ) (q : Quaternion)
 unfolding quaternionBytes bytesOf
 quaternion-sets l i q = join4 l (bytes (q .w)) (bytes (q .x)) (bytes (q .y)) (bytes (q .z)) i (i + 8) (i + 16) (i + 24) refl (omega arith) (omega arith)
 
-element-length : (e : Element) → length (elementBytes e) ≡ 88
-unfolding elementBytes vectorBytes quaternionBytes bytesOf
+pub element-length : (e : Element) → length (elementBytes e) ≡ 88
+unfolding elementBytes valueBytes wordBytes bytesOf coeffs
 element-length e = refl
 
 pub element-sets : (l : List ℕ) (e : Element) → length l ≡ 88
@@ -32,5 +34,5 @@ element-sets l e h = joined l e ∙ sets-all (elementBytes e) l (omega (arith, e
     joined : (l : List ℕ) (e : Element)
         → sets (sets (sets (sets l 0 (vectorBytes (e .translation))) 24 (quaternionBytes (e .rotation))) 56 (vectorBytes (e .velocity))) 80 (bytes (e .time)) ≡ sets l 0 (elementBytes e)
     joined l e =
-        unfold elementBytes vectorBytes quaternionBytes bytesOf in
+        unfold elementBytes valueBytes wordBytes vectorBytes quaternionBytes bytesOf coeffs in
         join4 l (vectorBytes (e .translation)) (quaternionBytes (e .rotation)) (vectorBytes (e .velocity)) (bytes (e .time)) 0 24 56 80 refl refl refl

@@ -14,6 +14,7 @@ use Rattle.checks.specs.declared.Refusal.the-variants.{NotFinite}
 use Rattle.checks.specs.declared.Check.the-variants.{Refused as Check·Refused}
 use Rattle.checks.proofs.Finite.{both, finite-append}
 use Rattle.words.specs.Word.{valueAt}
+use Rattle.sgal3.specs.Elements.{coeffs, elementOf}
 use Rattle.element_bytes.specs.Bytes.{valuesAt}
 
 pub eleven : (s : List ℕ) (i : ℕ)
@@ -82,7 +83,12 @@ pub not-finite : (s : List ℕ) (i : ℕ) (t : Float) → allFinite (valuesAt 11
 unfolding checkParamBlock checkValues Checks.next
 not-finite s i t e = rw (eq-eqb (length (valuesAt 11 s i)) 11 (values-length 11 s i), e)
 
+-- the values of a block's element are the block's own
+pub element-values : (s : List ℕ) (i : ℕ) → coeffs (elementOf (valuesAt 11 s i)) ≡ valuesAt 11 s i
+unfolding coeffs elementOf
+element-values s i = ap (λ (v : List Float). coeffs (elementOf v)) (eleven s i) ∙ sym (eleven s i)
+
 pub by-norm : (s : List ℕ) (i : ℕ) (t : Float) → allFinite (valuesAt 11 s i) ≡ true
-    → checkParamBlock (valuesAt 11 s i) 11 3 t ≡ checkUnitQuaternion (valueAt s (i + 24) ∷ valueAt s (i + 32) ∷ valueAt s (i + 40) ∷ valueAt s (i + 48) ∷ []) t
+    → checkParamBlock (valuesAt 11 s i) 11 3 t ≡ checkUnitQuaternion (take 4 (drop 3 (coeffs (elementOf (valuesAt 11 s i))))) t
 unfolding checkParamBlock checkValues Checks.next
-by-norm s i t e = rw (eq-eqb (length (valuesAt 11 s i)) 11 (values-length 11 s i), e) (ap (λ (l : List Float). checkUnitQuaternion (take 4 (drop 3 l)) t) (eleven s i))
+by-norm s i t e = rw (eq-eqb (length (valuesAt 11 s i)) 11 (values-length 11 s i), e) (ap (λ (l : List Float). checkUnitQuaternion (take 4 (drop 3 l)) t) (sym (element-values s i)))

@@ -84,15 +84,14 @@ pub fn check_values(s: &[u8], at: usize) -> Check
     if !all_finite(s, at) {
         return Check::Refused(Refusal::NotFinite);
     }
-    let q = quaternion(s, at + 24);
-    let values = [q.w, q.x, q.y, q.z];
-    checks::check_unit_quaternion(&values, checks::tolerance())
+    let values = element(s, at).coeffs();
+    checks::check_unit_quaternion(&values[3..7], checks::tolerance())
 }
 
 fn put_vector(out: &mut [u8], at: usize, a: Vec3)
     requires { ⌜ at + 24 ≤ length (now out) ⌝ }
     requires { ⌜ allFinite (Steps.vectorValues a) ≡ true ⌝ }
-    ensures { λ _. ⌜ now (out .exit) ≡ sets (now (out .entry)) at (Bytes.vectorBytes a) ⌝ }
+    ensures { λ _. ⌜ now (out .exit) ≡ sets (now (out .entry)) at (Steps.vectorBytes a) ⌝ }
 {
     words::put_finite_value(out, at, a.x);
     words::put_finite_value(out, at + 8, a.y);
@@ -102,7 +101,7 @@ fn put_vector(out: &mut [u8], at: usize, a: Vec3)
 fn put_quaternion(out: &mut [u8], at: usize, q: Quaternion)
     requires { ⌜ at + 32 ≤ length (now out) ⌝ }
     requires { ⌜ allFinite (Steps.quaternionValues q) ≡ true ⌝ }
-    ensures { λ _. ⌜ now (out .exit) ≡ sets (now (out .entry)) at (Bytes.quaternionBytes q) ⌝ }
+    ensures { λ _. ⌜ now (out .exit) ≡ sets (now (out .entry)) at (Steps.quaternionBytes q) ⌝ }
 {
     words::put_finite_value(out, at, q.w);
     words::put_finite_value(out, at + 8, q.x);

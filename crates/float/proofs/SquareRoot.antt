@@ -74,7 +74,7 @@ root-of-field b f q e lo hi r =
     (subst (λ (x : ℕ). Between ((b % 2 ^ 52 + 2 ^ 52) * 2 ^ ((x + 1073) % 2) * 2 ^ 54) q) (sym e) r)
 
 -- ---- `squareRoot`, by the tests that the code makes
-pub of-nan : (x : Float) → ne x x ≡ true → x ≡ squareRoot x
+pub of-nan : (x : Float) → ne x x ≡ true → nan ≡ squareRoot x
 unfolding squareRoot
 of-nan x e = rw (differs-from-itself x (subst T (sym e) tt))
 

@@ -50,7 +50,7 @@ pub fn sqrt(x: f64) -> f64
     ensures { λ r. ⌜ r ≡ squareRoot x ⌝ }
 {
     if x != x {
-        return x;
+        return 0.0 / 0.0; // as compiled 7FF8000000000000, whatever NaN x is
     }
     let b = f64::to_bits(x);
     if b >= NEAR_ONE_FIRST {

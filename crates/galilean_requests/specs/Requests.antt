@@ -4,6 +4,7 @@ use mathlib.Core.Bool.{cond}
 use mathlib.Core.List.{List, []}
 use lib.Dec.{eqb, ltb}
 use lib.Ieee.{Float, binary64, ofBits}
+use Rattle.checks.specs.Outcomes.{outcome}
 use Rattle.checks.specs.declared.Check.the-variants.{Passed}
 use Rattle.sgal3.specs.Elements as Elements
 use Rattle.sgal3.specs.Tangents as Tangents
@@ -16,7 +17,7 @@ use Rattle.manifold_sgal3_blocks.specs.Calls as GalileanGroup
 use Rattle.outcomes.specs.Outcomes as Outcomes
 
 unfoldable pub generatorCall : ℕ → List ℕ
-generatorCall extra = Outcomes.outcome Passed (Algebra.generator extra)
+generatorCall extra = Outcomes.ofValues (outcome Passed (Algebra.generator extra))
 
 -- elements of the Galilean group: the calls that the handset makes, and the parts of one
 unfoldable pub elementCall : ℕ → List Float → List Float → ℕ → List ℕ
@@ -29,7 +30,7 @@ elementCall call left right extra =
     (cond (eqb call 75) (Outcomes.ofNumber (Galilean.time left))
     (cond (eqb call 76) (Outcomes.ofRotation (Galilean.rotationQuaternion left))
     (cond (eqb call 77) (Outcomes.ofMatrix3 (Galilean.rotationMatrix left))
-    (cond (eqb call 78) (Outcomes.outcome (Galilean.coeffs left .outcome) (Galilean.coeffs left .values))
+    (cond (eqb call 78) (Outcomes.ofCoeffs (Galilean.coeffs left))
     []))))))))
 
 -- the logarithm of an element of the Galilean group, and what it acts on
@@ -58,13 +59,13 @@ tangentCall call left right extra =
 unfoldable pub matrixCall : ℕ → List Float → List Float → ℕ → List ℕ
 matrixCall call left right extra =
     cond (eqb call 91) (generatorCall extra)
-    (cond (eqb call 92) (Outcomes.outcome (GalileanMatrices.matrix left .outcome) (GalileanMatrices.matrix left .values))
+    (cond (eqb call 92) (Outcomes.ofMatrix5 (GalileanMatrices.matrix left))
     (cond (eqb call 93) (Outcomes.ofMatrix10 (GalileanMatrices.adjoint left))
     (cond (eqb call 94) (Outcomes.ofMatrix10 (GalileanMatrices.inverseJacobian left))
     (cond (eqb call 95) (Outcomes.ofMatrix10 (GalileanMatrices.composeJacobianSelf left right))
     (cond (eqb call 96) (Outcomes.ofMatrix10 (GalileanMatrices.composeJacobianOther left right))
-    (cond (eqb call 97) (Outcomes.outcome (GalileanMatrices.actJacobianSelf left right .outcome) (GalileanMatrices.actJacobianSelf left right .values))
-    (cond (eqb call 98) (Outcomes.outcome (GalileanMatrices.hat left .outcome) (GalileanMatrices.hat left .values))
+    (cond (eqb call 97) (Outcomes.ofActJacobian (GalileanMatrices.actJacobianSelf left right))
+    (cond (eqb call 98) (Outcomes.ofHat (GalileanMatrices.hat left))
     (cond (eqb call 99) (Outcomes.ofMatrix10 (GalileanMatrices.smallAdj left))
     []))))))))
 

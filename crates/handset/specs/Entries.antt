@@ -1,27 +1,25 @@
--- The three C entries: what each answers, and what the output then holds. Definitions only.
+-- The four C entries: what each answers, and what the output then holds. Definitions only.
 use Prim.Native.Nat.{ℕ}
 use mathlib.Core.Path.{_≡_}
 use mathlib.Core.Bool.{cond}
 use mathlib.Core.List.{List}
 use lib.Dec.{eqb}
 use lib.ListN.{length}
-use Rattle.checks.specs.Refusals as Refusals
 use Rattle.checks.specs.declared.Refusal.the-variants.{Length}
-use Rattle.element_bytes.specs.Bytes.{elementBytes}
+use Rattle.element_bytes.specs.Bytes.{valueBytes}
 use Rattle.byte_chain.specs.Blocks as Blocks
 use Rattle.sgal3_composition.specs.Calls as Calls
+use Rattle.sgal3_composition.specs.Outcomes.{element}
 use Rattle.sgal3_composition.specs.declared.Answer.{Answer}
-use Rattle.sgal3_composition.specs.declared.Answer.the-variants.{Done, Refused}
+use Rattle.sgal3_composition.specs.declared.Answer.the-variants.{Refused}
 
--- 0 for an answer, or the refusal's number
+-- the number of an answer's outcome: 0, or the refusal's
 unfoldable pub number : Answer → ℕ
-number (Done e) = 0
-number (Refused r) = Refusals.number r
+number answer = element answer .number
 
--- the output after a call: the element's bytes, or what it held before
+-- the output after a call: the bytes of the outcome's values where the number is 0, and otherwise what it held before
 unfoldable pub written : Answer → List ℕ → List ℕ
-written (Done e) out = elementBytes e
-written (Refused r) out = out
+written answer out = cond (eqb (number answer) 0) (valueBytes (element answer .values)) out
 
 -- what an entry ensures: its number, the output after it, and that a refusal leaves the output as it was
 pub record Answered (answer : Answer) (before after : List ℕ) (r : ℕ) : Type 0 where
@@ -35,6 +33,10 @@ into out answer = cond (eqb (length out) 88) answer (Calls.firstRefusal answer (
 
 unfoldable pub compose : List ℕ → List ℕ → List ℕ → Answer
 compose left right out = into out (Calls.composeAnswers (Blocks.checkBlock left) (Blocks.checkBlock right))
+
+-- compose with the block held as the left one and as the output
+unfoldable pub composeInPlace : List ℕ → List ℕ → Answer
+composeInPlace held step = compose held step held
 
 unfoldable pub inverse : List ℕ → List ℕ → Answer
 inverse block out = into out (Calls.inverseAnswer (Blocks.checkBlock block))

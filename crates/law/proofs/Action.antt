@@ -27,17 +27,17 @@ module _ {A : Type 0} (𝓔 : Exact A) where
   abbrev 𝓡 : Ring A
   𝓡 = 𝓔 .ring
 
-  abbrev _+_ : Vector A → Vector A → Vector A
-  a + b = Vector.add o a b
+  abbrev _⊕ᵥ_ : Vector A → Vector A → Vector A
+  a ⊕ᵥ b = Vector.add o a b
 
   abbrev _·_ : Vector A → A → Vector A
   a · k = Vector.scale o a k
 
-  infixl 60 _+_
+  infixl 60 _⊕ᵥ_
   infixl 70 _·_
   -- v_a (2 s_b) + (R_a v_b) s_a
   abbrev pub defect : Element A → Element A → Vector A
-  defect a b = a .velocity · o .mul (o .two) (b .time) + Quaternion.rotate o (a .rotation) (b .velocity) · a .time
+  defect a b = a .velocity · o .mul (o .two) (b .time) ⊕ᵥ Quaternion.rotate o (a .rotation) (b .velocity) · a .time
 
   act-is : (a : Element A) (p : Vector A) → Unit 𝓔 a → act o a p ≡ actAt o (a .rotation) a p
   unfolding act
@@ -53,7 +53,7 @@ module _ {A : Type 0} (𝓔 : Exact A) where
   -- the two sides differ as rotate (q r) p and rotate q (rotate r p) do, as in composeAt-assoc of Group
   actAt-compose : (a b : Element A) (p : Vector A) → Unit 𝓔 a → Unit 𝓔 b
       → actAt o (Quaternion.mul o (a .rotation) (b .rotation)) (composeAt o (a .rotation) (b .rotation) a b) p
-      ≡ actAt o (a .rotation) a (actAt o (b .rotation) b p) + defect a b
+      ≡ actAt o (a .rotation) a (actAt o (b .rotation) b p) ⊕ᵥ defect a b
   unfolding actAt composeAt Quaternion.mul Quaternion.rotate Quaternion.vector Quaternion.rotationMatrix Quaternion.normSquared Matrix.apply Vector.add Vector.sub Vector.scale Vector.cross Vector.dot agree eval
   actAt-compose a b p h k =
       let m = written in
@@ -70,13 +70,13 @@ module _ {A : Type 0} (𝓔 : Exact A) where
       solveVectorBy 𝓡 xs (Quaternion.normSquared m q) (m .one) h (off r) left middle tt
       ∙ solveVectorBy 𝓡 xs (Quaternion.normSquared m r) (m .one) k (off q) middle right tt
 
-  pub act-compose-defect : (a b : Element A) (p : Vector A) → Unit 𝓔 a → Unit 𝓔 b → act o (compose o a b) p ≡ act o a (act o b p) + defect a b
+  pub act-compose-defect : (a b : Element A) (p : Vector A) → Unit 𝓔 a → Unit 𝓔 b → act o (compose o a b) p ≡ act o a (act o b p) ⊕ᵥ defect a b
   unfolding composeAt
   act-compose-defect a b p h k =
       act-is (compose o a b) p (compose-unit 𝓔 a b h k)
       ∙ ap (λ (c : Element A). actAt o (c .rotation) c p) (compose-is 𝓔 a b h k)
       ∙ actAt-compose a b p h k
-      ∙ ap (λ x. x + defect a b) (sym (act-is a (act o b p) h ∙ ap (actAt o (a .rotation) a) (act-is b p k)))
+      ∙ ap (λ x. x ⊕ᵥ defect a b) (sym (act-is a (act o b p) h ∙ ap (actAt o (a .rotation) a) (act-is b p k)))
 
 -- in the integers: a velocity along x, after one unit of time, moves the origin to x = 2, and the two in turn leave it
 abbrev i : Arithmetic ℤ

@@ -26,13 +26,13 @@ module _ {A : Type 0} (𝓔 : Exact A) where
   abbrev 𝓡 : Ring A
   𝓡 = 𝓔 .ring
 
-  infixl 60 _+_ _-_
+  infixl 60 _⊕ᵥ_ _⊖ᵥ_
   infixl 70 _·_
-  abbrev _+_ : Vector A → Vector A → Vector A
-  a + b = Vector.add o a b
+  abbrev _⊕ᵥ_ : Vector A → Vector A → Vector A
+  a ⊕ᵥ b = Vector.add o a b
 
-  abbrev _-_ : Vector A → Vector A → Vector A
-  a - b = Vector.sub o a b
+  abbrev _⊖ᵥ_ : Vector A → Vector A → Vector A
+  a ⊖ᵥ b = Vector.sub o a b
 
   abbrev _·_ : Vector A → A → Vector A
   a · k = Vector.scale o a k
@@ -41,7 +41,7 @@ module _ {A : Type 0} (𝓔 : Exact A) where
   apply m p = Matrix.apply o m p
 
   -- a matrix times a sum of vectors
-  pub apply-add : (m : Matrix A) (a b : Vector A) → apply m (a + b) ≡ apply m a + apply m b
+  pub apply-add : (m : Matrix A) (a b : Vector A) → apply m (a ⊕ᵥ b) ≡ apply m a ⊕ᵥ apply m b
   unfolding Matrix.apply Vector.dot Vector.add agree eval
   apply-add m a b =
       let w = written in
@@ -51,7 +51,7 @@ module _ {A : Type 0} (𝓔 : Exact A) where
       tt
 
   -- a matrix times a difference of vectors
-  pub apply-sub : (m : Matrix A) (a b : Vector A) → apply m (a - b) ≡ apply m a - apply m b
+  pub apply-sub : (m : Matrix A) (a b : Vector A) → apply m (a ⊖ᵥ b) ≡ apply m a ⊖ᵥ apply m b
   unfolding Matrix.apply Vector.dot Vector.sub agree eval
   apply-sub m a b =
       let w = written in
@@ -69,7 +69,7 @@ module _ {A : Type 0} (𝓔 : Exact A) where
       (Matrix.apply w (matrix 0) (Vector.scale w (vector 9) (var 12))) (Vector.scale w (Matrix.apply w (matrix 0) (vector 9)) (var 12)) tt
 
   -- the identity less a matrix, times a vector
-  pub apply-identity-sub : (K : Matrix A) (a : Vector A) → apply (Matrix.sub o (Matrix.identity o) K) a ≡ a - apply K a
+  pub apply-identity-sub : (K : Matrix A) (a : Vector A) → apply (Matrix.sub o (Matrix.identity o) K) a ≡ a ⊖ᵥ apply K a
   unfolding Matrix.apply Matrix.sub Matrix.identity Vector.dot Vector.sub agree eval
   apply-identity-sub K a =
       let w = written in
@@ -77,11 +77,11 @@ module _ {A : Type 0} (𝓔 : Exact A) where
       (Matrix.apply w (Matrix.sub w (Matrix.identity w) (matrix 0)) (vector 9)) (Vector.sub w (vector 9) (Matrix.apply w (matrix 0) (vector 9))) tt
 
   -- i after j, where i j = I - K
-  apply-product : (i j K : Matrix A) (a : Vector A) → Matrix.mul o i j ≡ Matrix.sub o (Matrix.identity o) K → apply i (apply j a) ≡ a - apply K a
+  apply-product : (i j K : Matrix A) (a : Vector A) → Matrix.mul o i j ≡ Matrix.sub o (Matrix.identity o) K → apply i (apply j a) ≡ a ⊖ᵥ apply K a
   apply-product i j K a h = sym (apply-mul 𝓔 i j a) ∙ ap (λ n. apply n a) h ∙ apply-identity-sub K a
 
   -- multiples by the same s, one added and one taken away
-  add-sub-scale : (a b c : Vector A) (s : A) → (a + b · s) - c · s ≡ a + (b - c) · s
+  add-sub-scale : (a b c : Vector A) (s : A) → (a ⊕ᵥ b · s) ⊖ᵥ c · s ≡ a ⊕ᵥ (b ⊖ᵥ c) · s
   unfolding Vector.add Vector.sub Vector.scale agree eval
   add-sub-scale a b c s =
       let w = written in
@@ -91,12 +91,12 @@ module _ {A : Type 0} (𝓔 : Exact A) where
       tt
 
   -- a - (a - b) = b
-  sub-sub : (a b : Vector A) → a - (a - b) ≡ b
+  sub-sub : (a b : Vector A) → a ⊖ᵥ (a ⊖ᵥ b) ≡ b
   unfolding Vector.sub agree eval
   sub-sub a b = let w = written in solveVector 𝓡 (ofVector a (ofVector b [])) (Vector.sub w (vector 0) (Vector.sub w (vector 0) (vector 3))) (vector 3) tt
 
   -- b·s taken away and added: what is left is d·s
-  cancel-sub : (a b c d : Vector A) (s : A) → ((a - b · s) - (c - d · s)) + b · s ≡ (a - c) + d · s
+  cancel-sub : (a b c d : Vector A) (s : A) → ((a ⊖ᵥ b · s) ⊖ᵥ (c ⊖ᵥ d · s)) ⊕ᵥ b · s ≡ (a ⊖ᵥ c) ⊕ᵥ d · s
   unfolding Vector.add Vector.sub Vector.scale agree eval
   cancel-sub a b c d s =
       let w = written in
@@ -113,8 +113,8 @@ module _ {A : Type 0} (𝓔 : Exact A) where
   abbrev pub returnedTangentBy : Matrix A → Matrix A → Matrix A → Matrix A → Vector A → Tangent A → Tangent A
   returnedTangentBy i K m l θ ξ =
       record {
-        rho = (ξ .rho - apply K (ξ .rho)) + apply i (apply m (ξ .nu) - apply l (ξ .nu - apply K (ξ .nu))) · ξ .s;
-        nu = ξ .nu - apply K (ξ .nu);
+        rho = (ξ .rho ⊖ᵥ apply K (ξ .rho)) ⊕ᵥ apply i (apply m (ξ .nu) ⊖ᵥ apply l (ξ .nu ⊖ᵥ apply K (ξ .nu))) · ξ .s;
+        nu = ξ .nu ⊖ᵥ apply K (ξ .nu);
         theta = θ;
         s = ξ .s;
       }
@@ -123,8 +123,8 @@ module _ {A : Type 0} (𝓔 : Exact A) where
   abbrev pub returnedTangent : Matrix A → Matrix A → Matrix A → Vector A → Tangent A → Tangent A
   returnedTangent i K m θ ξ =
       record {
-        rho = (ξ .rho - apply K (ξ .rho)) + apply i (apply m (apply K (ξ .nu))) · ξ .s;
-        nu = ξ .nu - apply K (ξ .nu);
+        rho = (ξ .rho ⊖ᵥ apply K (ξ .rho)) ⊕ᵥ apply i (apply m (apply K (ξ .nu))) · ξ .s;
+        nu = ξ .nu ⊖ᵥ apply K (ξ .nu);
         theta = θ;
         s = ξ .s;
       }
@@ -133,9 +133,9 @@ module _ {A : Type 0} (𝓔 : Exact A) where
   abbrev pub returnedElement : Matrix A → Matrix A → Matrix A → Quaternion A → Element A → Element A
   returnedElement i K m q a =
       record {
-        translation = (a .translation - apply K (a .translation)) + apply K (apply m (apply i (a .velocity))) · a .time;
+        translation = (a .translation ⊖ᵥ apply K (a .translation)) ⊕ᵥ apply K (apply m (apply i (a .velocity))) · a .time;
         rotation = q;
-        velocity = a .velocity - apply K (a .velocity);
+        velocity = a .velocity ⊖ᵥ apply K (a .velocity);
         time = a .time;
       }
 
@@ -146,23 +146,23 @@ module _ {A : Type 0} (𝓔 : Exact A) where
   logBy-expBy-general i j K m l θ q ξ h =
       let p = apply j (ξ .rho) in
       let n = apply m (ξ .nu) in
-      let c = apply l (ξ .nu - apply K (ξ .nu)) in
-      let atNu : apply i (apply j (ξ .nu)) ≡ ξ .nu - apply K (ξ .nu) = apply-product i j K (ξ .nu) h in
-      let atRho : apply i ((p + n · ξ .s) - apply l (apply i (apply j (ξ .nu))) · ξ .s) ≡ (ξ .rho - apply K (ξ .rho)) + apply i (n - c) · ξ .s =
-      ap (λ b. apply i ((p + n · ξ .s) - apply l b · ξ .s)) atNu
+      let c = apply l (ξ .nu ⊖ᵥ apply K (ξ .nu)) in
+      let atNu : apply i (apply j (ξ .nu)) ≡ ξ .nu ⊖ᵥ apply K (ξ .nu) = apply-product i j K (ξ .nu) h in
+      let atRho : apply i ((p ⊕ᵥ n · ξ .s) ⊖ᵥ apply l (apply i (apply j (ξ .nu))) · ξ .s) ≡ (ξ .rho ⊖ᵥ apply K (ξ .rho)) ⊕ᵥ apply i (n ⊖ᵥ c) · ξ .s =
+      ap (λ b. apply i ((p ⊕ᵥ n · ξ .s) ⊖ᵥ apply l b · ξ .s)) atNu
       ∙ ap (apply i) (add-sub-scale p n c (ξ .s))
-      ∙ apply-add i p ((n - c) · ξ .s)
-      ∙ ap₂ _+_ (apply-product i j K (ξ .rho) h) (apply-scale i (n - c) (ξ .s)) in
+      ∙ apply-add i p ((n ⊖ᵥ c) · ξ .s)
+      ∙ ap₂ _⊕ᵥ_ (apply-product i j K (ξ .rho) h) (apply-scale i (n ⊖ᵥ c) (ξ .s)) in
       ap₂ (λ (r u : Vector A). record { rho = r; nu = u; theta = θ; s = ξ .s }) atRho atNu
 
   -- the same with one m for both
   pub logBy-expBy : (i j K m : Matrix A) (θ : Vector A) (q : Quaternion A) (ξ : Tangent A) → Matrix.mul o i j ≡ Matrix.sub o (Matrix.identity o) K
       → logBy o i m θ (expBy o j m q ξ) ≡ returnedTangent i K m θ ξ
   logBy-expBy i j K m θ q ξ h =
-      let rest : apply m (ξ .nu) - apply m (ξ .nu - apply K (ξ .nu)) ≡ apply m (apply K (ξ .nu)) =
-      ap (λ c. apply m (ξ .nu) - c) (apply-sub m (ξ .nu) (apply K (ξ .nu))) ∙ sub-sub (apply m (ξ .nu)) (apply m (apply K (ξ .nu))) in
+      let rest : apply m (ξ .nu) ⊖ᵥ apply m (ξ .nu ⊖ᵥ apply K (ξ .nu)) ≡ apply m (apply K (ξ .nu)) =
+      ap (λ c. apply m (ξ .nu) ⊖ᵥ c) (apply-sub m (ξ .nu) (apply K (ξ .nu))) ∙ sub-sub (apply m (ξ .nu)) (apply m (apply K (ξ .nu))) in
       logBy-expBy-general i j K m m θ q ξ h
-      ∙ ap (λ c. record { rho = (ξ .rho - apply K (ξ .rho)) + apply i c · ξ .s; nu = ξ .nu - apply K (ξ .nu); theta = θ; s = ξ .s }) rest
+      ∙ ap (λ c. record { rho = (ξ .rho ⊖ᵥ apply K (ξ .rho)) ⊕ᵥ apply i c · ξ .s; nu = ξ .nu ⊖ᵥ apply K (ξ .nu); theta = θ; s = ξ .s }) rest
 
   -- exp after log, for any matrices with j i = I - K, and any m
   pub expBy-logBy : (i j K m : Matrix A) (θ : Vector A) (q : Quaternion A) (a : Element A) → Matrix.mul o j i ≡ Matrix.sub o (Matrix.identity o) K
@@ -170,10 +170,10 @@ module _ {A : Type 0} (𝓔 : Exact A) where
   unfolding logBy expBy
   expBy-logBy i j K m θ q a h =
       let n = apply m (apply i (a .velocity)) in
-      let p = a .translation - n · a .time in
-      let atTranslation : apply j (apply i p) + n · a .time ≡ (a .translation - apply K (a .translation)) + apply K n · a .time =
-      ap (λ c. c + n · a .time) (apply-product j i K p h)
-      ∙ ap (λ c. (p - c) + n · a .time) (apply-sub K (a .translation) (n · a .time) ∙ ap (λ c. apply K (a .translation) - c) (apply-scale K n (a .time)))
+      let p = a .translation ⊖ᵥ n · a .time in
+      let atTranslation : apply j (apply i p) ⊕ᵥ n · a .time ≡ (a .translation ⊖ᵥ apply K (a .translation)) ⊕ᵥ apply K n · a .time =
+      ap (λ c. c ⊕ᵥ n · a .time) (apply-product j i K p h)
+      ∙ ap (λ c. (p ⊖ᵥ c) ⊕ᵥ n · a .time) (apply-sub K (a .translation) (n · a .time) ∙ ap (λ c. apply K (a .translation) ⊖ᵥ c) (apply-scale K n (a .time)))
       ∙ cancel-sub (a .translation) n (apply K (a .translation)) (apply K n) (a .time) in
       ap₂ (λ (t v : Vector A). record { translation = t; rotation = q; velocity = v; time = a .time }) atTranslation (apply-product j i K (a .velocity) h)
 
@@ -241,7 +241,7 @@ module _ {A : Type 0} (𝓔 : Exact A) where
       tt
 
   -- where n² = 1 + b
-  scale-remainder : (p : Vector A) (n b : A) → o .mul n n ≡ o .add (o .one) b → (p · n - p) · o .add n (o .one) ≡ p · b
+  scale-remainder : (p : Vector A) (n b : A) → o .mul n n ≡ o .add (o .one) b → (p · n ⊖ᵥ p) · o .add n (o .one) ≡ p · b
   unfolding Vector.sub Vector.scale agree eval
   scale-remainder p n b h =
       let w = written in
@@ -253,12 +253,12 @@ module _ {A : Type 0} (𝓔 : Exact A) where
   -- the angle given less the angle φ that comes back: with n the norm, and the root exact at it, (θ - φ) (n + 1) = φ |θ/2|², of third order
   pub log-exp-rotation-remainder : (θ : Vector A) → ExactDivisor (o .two) → ExactDivisor (Quaternion.norm o (firstOrder θ))
       → o .mul (Quaternion.norm o (firstOrder θ)) (Quaternion.norm o (firstOrder θ)) ≡ Quaternion.normSquared o (firstOrder θ)
-      → (θ - Series.logBy o (o .two) (Series.exp o θ)) · o .add (Quaternion.norm o (firstOrder θ)) (o .one)
+      → (θ ⊖ᵥ Series.logBy o (o .two) (Series.exp o θ)) · o .add (Quaternion.norm o (firstOrder θ)) (o .one)
       ≡ Series.logBy o (o .two) (Series.exp o θ) · Vector.normSquared o (Vector.divide o θ (o .two))
   log-exp-rotation-remainder θ h k r =
       let n = Quaternion.norm o (firstOrder θ) in
       let φ = Series.logBy o (o .two) (Series.exp o θ) in
-      ap (λ c. (c - φ) · o .add n (o .one)) (sym (log-exp-rotation θ h k))
+      ap (λ c. (c ⊖ᵥ φ) · o .add n (o .one)) (sym (log-exp-rotation θ h k))
       ∙ scale-remainder φ n (Vector.normSquared o (Vector.divide o θ (o .two))) (r ∙ normSquared-firstOrder θ)
 
   -- exp after log: a quaternion with 1 in place of w, normalised, where dividing by 2 undoes doubling

@@ -28,13 +28,14 @@ module _ {A : Type 0} (o : Arithmetic A) where
   infixl 60 _⊕_
   open Arithmetic o using (zero as 𝟘, one as 𝟙, two as 𝟚, add as _⊕_, neg as ⊝)
 
-  infixl 60 _+_ _-_
+  -- of vectors
+  infixl 60 _⊕ᵥ_ _⊖ᵥ_
   infixl 70 _·_
-  abbrev _+_ : Vector A → Vector A → Vector A
-  a + b = Vector.add o a b
+  abbrev _⊕ᵥ_ : Vector A → Vector A → Vector A
+  a ⊕ᵥ b = Vector.add o a b
 
-  abbrev _-_ : Vector A → Vector A → Vector A
-  a - b = Vector.sub o a b
+  abbrev _⊖ᵥ_ : Vector A → Vector A → Vector A
+  a ⊖ᵥ b = Vector.sub o a b
 
   abbrev _·_ : Vector A → A → Vector A
   a · k = Vector.scale o a k
@@ -53,9 +54,9 @@ module _ {A : Type 0} (o : Arithmetic A) where
   unfoldable pub composeAt : Quaternion A → Quaternion A → Element A → Element A → Element A
   composeAt q r a b =
       record {
-        translation = (rotate q (b .translation) + a .translation) + a .velocity · b .time;
+        translation = (rotate q (b .translation) ⊕ᵥ a .translation) ⊕ᵥ a .velocity · b .time;
         rotation = Quaternion.mul o q r;
-        velocity = rotate q (b .velocity) + a .velocity;
+        velocity = rotate q (b .velocity) ⊕ᵥ a .velocity;
         time = a .time ⊕ b .time;
       }
 
@@ -66,7 +67,7 @@ module _ {A : Type 0} (o : Arithmetic A) where
   unfoldable pub inverseAt : Quaternion A → Quaternion A → Element A → Element A
   inverseAt q r a =
       record {
-        translation = Vector.neg o (rotate q (a .translation - a .velocity · a .time));
+        translation = Vector.neg o (rotate q (a .translation ⊖ᵥ a .velocity · a .time));
         rotation = r;
         velocity = Vector.neg o (rotate q (a .velocity));
         time = ⊝ (a .time);
@@ -79,7 +80,7 @@ module _ {A : Type 0} (o : Arithmetic A) where
 
   -- (R p + t) + s v: the point is taken at the element's own time
   unfoldable pub actAt : Quaternion A → Element A → Vector A → Vector A
-  actAt q a p = (rotate q p + a .translation) + a .velocity · a .time
+  actAt q a p = (rotate q p ⊕ᵥ a .translation) ⊕ᵥ a .velocity · a .time
 
   unfoldable pub act : Element A → Vector A → Vector A
   act a p = actAt (Rotation.unitQuaternion o (rotationImpl a)) a p

@@ -15,10 +15,11 @@ module _ {A : Type 0} (o : Arithmetic A) where
   infixl 70 _⊗_ _⊘_
   open Arithmetic o using (zero as 𝟘, one as 𝟙, two as 𝟚, add as _⊕_, sub as _⊖_, mul as _⊗_, div as _⊘_, neg as ⊝, root)
 
-  infixl 60 _+_
+  -- of vectors
+  infixl 60 _⊕ᵥ_
   infixl 70 _·_ _⨯_
-  abbrev _+_ : Vector A → Vector A → Vector A
-  a + b = Vector.add o a b
+  abbrev _⊕ᵥ_ : Vector A → Vector A → Vector A
+  a ⊕ᵥ b = Vector.add o a b
 
   abbrev _·_ : Vector A → A → Vector A
   a · k = Vector.scale o a k
@@ -64,7 +65,7 @@ module _ {A : Type 0} (o : Arithmetic A) where
   rotate q p =
       let u = vector q in
       let c = (u ⨯ p) · 𝟚 in
-      (c · q .w + u ⨯ c) + p
+      (c · q .w ⊕ᵥ u ⨯ c) ⊕ᵥ p
 
   unfoldable pub rotationMatrix : Quaternion A → Matrix A
   rotationMatrix q =

@@ -1,51 +1,44 @@
--- What a call came to, as bytes. Definitions only.
+-- What a call came to, as bytes: the outcome of its answer, written down. Definitions only.
 use Prim.Native.Nat.{ℕ, _≤_}
 use mathlib.Core.Path.{_≡_}
 use mathlib.Core.Bool.{Bool, cond}
-use mathlib.Core.List.{List, [], _∷_, _++_}
+use mathlib.Core.List.{List, [], _∷_, _++_, map}
 use lib.ListN.{length}
 use lib.Seq.{sets}
 use lib.Ieee.{Float, binary64, toBits}
-use Rattle.words.specs.Word.{bytesOf}
-use Rattle.checks.specs.Refusals as Refusals
-use Rattle.checks.specs.declared.Refusal.{Refusal}
-use Rattle.checks.specs.declared.Refusal.the-variants.{Length, NotFinite, NotUnit, Turn, Overflow}
+use Rattle.words.specs.Word.{bytesOf, wordBytes}
+use Rattle.checks.specs.Refusals.{Figures, none, lengths, norm}
+use Rattle.checks.specs.Outcomes.{Outcome, outcome}
 use Rattle.checks.specs.declared.Check.{Check}
-use Rattle.checks.specs.declared.Check.the-variants.{Passed, Refused}
+use Rattle.checks.specs.declared.Check.the-variants.{Passed}
+use Rattle.so3_answers.specs.Outcomes as Rotations
 use Rattle.so3_answers.specs.declared.Answer.{Answer as Rotation}
-use Rattle.so3_answers.specs.declared.Answer.the-variants.{Done as Rotation·Done, Refused as Rotation·Refused}
 use Rattle.so3_answers.specs.declared.TangentAnswer.{TangentAnswer as RotationTangent}
-use Rattle.so3_answers.specs.declared.TangentAnswer.the-variants.{Done as RotationTangent·Done, Refused as RotationTangent·Refused}
 use Rattle.so3_answers.specs.declared.VectorAnswer.{VectorAnswer}
-use Rattle.so3_answers.specs.declared.VectorAnswer.the-variants.{Done as Vector·Done, Refused as Vector·Refused}
 use Rattle.so3_answers.specs.declared.ValidAnswer.{ValidAnswer}
-use Rattle.so3_answers.specs.declared.ValidAnswer.the-variants.{Done as Valid·Done, Refused as Valid·Refused}
-use Rattle.so3_answers.specs.declared.MatrixAnswer.{MatrixAnswer}
-use Rattle.sgal3.specs.Elements as Elements
-use Rattle.sgal3.specs.Tangents as Tangents
+use Rattle.so3_answers.specs.declared.MatrixAnswer.{MatrixAnswer as Matrix3Answer}
+use Rattle.sgal3_composition.specs.Outcomes as Elements
 use Rattle.sgal3_composition.specs.declared.Answer.{Answer}
-use Rattle.sgal3_composition.specs.declared.Answer.the-variants.{Done as Answer·Done, Refused as Answer·Refused}
+use Rattle.sgal3_answers.specs.Outcomes as Galilean
 use Rattle.sgal3_answers.specs.declared.TangentAnswer.{TangentAnswer}
-use Rattle.sgal3_answers.specs.declared.TangentAnswer.the-variants.{Done as Tangent·Done, Refused as Tangent·Refused}
 use Rattle.sgal3_answers.specs.declared.NumberAnswer.{NumberAnswer}
-use Rattle.sgal3_answers.specs.declared.NumberAnswer.the-variants.{Done as Number·Done, Refused as Number·Refused}
+use Rattle.sgal3_answers.specs.declared.CoeffsAnswer.{CoeffsAnswer}
+use Rattle.sgal3_answers.specs.declared.MatrixAnswer.{MatrixAnswer as Matrix5Answer}
+use Rattle.sgal3_answers.specs.declared.HatAnswer.{HatAnswer}
+use Rattle.sgal3_answers.specs.declared.ActJacobianAnswer.{ActJacobianAnswer}
 use Rattle.sgal3_answers.specs.declared.Row10.{Row10}
 use Rattle.sgal3_answers.specs.declared.Matrix10Answer.{Matrix10Answer}
 
 -- ---- words
-unfoldable pub firstFigure : Refusal → ℕ
-firstFigure (Length expected actual) = expected
-firstFigure NotFinite = 0
-firstFigure (NotUnit norm) = toBits binary64 norm
-firstFigure Turn = 0
-firstFigure Overflow = 0
+unfoldable pub firstFigure : Figures → ℕ
+firstFigure none = 0
+firstFigure (lengths expected actual) = expected
+firstFigure (norm n) = toBits binary64 n
 
-unfoldable pub secondFigure : Refusal → ℕ
-secondFigure (Length expected actual) = actual
-secondFigure NotFinite = 0
-secondFigure (NotUnit norm) = 0
-secondFigure Turn = 0
-secondFigure Overflow = 0
+unfoldable pub secondFigure : Figures → ℕ
+secondFigure none = 0
+secondFigure (lengths expected actual) = actual
+secondFigure (norm n) = 0
 
 unfoldable pub pair : ℕ → ℕ → List ℕ
 pair a b = bytesOf a ++ bytesOf b
@@ -53,71 +46,77 @@ pair a b = bytesOf a ++ bytesOf b
 unfoldable pub four : ℕ → ℕ → ℕ → ℕ → List ℕ
 four a b c d = pair a b ++ pair c d
 
--- the number, 0 for a check that is passed; two figures; how many values follow
-unfoldable pub header : Check → ℕ → List ℕ
-header Passed n = four 0 0 0 n
-header (Refused r) n = four (Refusals.number r) (firstFigure r) (secondFigure r) n
+-- the number, two figures, how many values follow
+unfoldable pub header : {A : Type 0} → Outcome A → ℕ → List ℕ
+header o n = four (o .number) (firstFigure (o .figures)) (secondFigure (o .figures)) n
 
--- the values' bits, one after the other
+-- the header after a check
+unfoldable pub headerOf : Check → ℕ → List ℕ
+headerOf c n = header (outcome {A = ℕ} c []) n
+
+-- an outcome whose values are written as words
+unfoldable pub bytes : {A : Type 0} → (A → ℕ) → Outcome A → List ℕ
+bytes word o = header o (length (o .values)) ++ wordBytes (map word (o .values))
+
+-- the bits of f64 values
 unfoldable pub bits : List Float → List ℕ
-bits [] = []
-bits (x ∷ xs) = bytesOf (toBits binary64 x) ++ bits xs
+bits values = wordBytes (map (toBits binary64) values)
 
-unfoldable pub rowBits : List Row10 → List ℕ
-rowBits [] = []
-rowBits (r ∷ rs) = bits (r .values) ++ rowBits rs
-
-unfoldable pub outcome : Check → List Float → List ℕ
-outcome c values = header c (length values) ++ bits values
+unfoldable pub ofValues : Outcome Float → List ℕ
+ofValues o = bytes (toBits binary64) o
 
 -- ---- what a call answered
 unfoldable pub ofCheck : Check → List ℕ
-ofCheck c = header c 0
+ofCheck c = ofValues (outcome c [])
 
 unfoldable pub ofWord : ℕ → List ℕ
-ofWord n = header Passed 1 ++ bytesOf n
+ofWord n = bytes (λ (word : ℕ). word) (outcome Passed (n ∷ []))
 
 -- 1 for yes
 unfoldable pub wordOf : Bool → ℕ
 wordOf b = cond b 1 0
 
 unfoldable pub ofValid : ValidAnswer → List ℕ
-ofValid (Valid·Done b) = ofWord (wordOf b)
-ofValid (Valid·Refused r) = ofCheck (Refused r)
+ofValid a = bytes wordOf (Rotations.valid a)
 
 unfoldable pub ofRotation : Rotation → List ℕ
-ofRotation (Rotation·Done a) = outcome Passed (a .params .w ∷ a .params .x ∷ a .params .y ∷ a .params .z ∷ [])
-ofRotation (Rotation·Refused r) = ofCheck (Refused r)
+ofRotation a = ofValues (Rotations.element a)
 
 unfoldable pub ofVector : VectorAnswer → List ℕ
-ofVector (Vector·Done v) = outcome Passed (v .x ∷ v .y ∷ v .z ∷ [])
-ofVector (Vector·Refused r) = ofCheck (Refused r)
+ofVector a = ofValues (Rotations.vector a)
 
 unfoldable pub ofRotationTangent : RotationTangent → List ℕ
-ofRotationTangent (RotationTangent·Done t) = outcome Passed (t .theta .x ∷ t .theta .y ∷ t .theta .z ∷ [])
-ofRotationTangent (RotationTangent·Refused r) = ofCheck (Refused r)
+ofRotationTangent a = ofValues (Rotations.tangent a)
 
-unfoldable pub ofMatrix3 : MatrixAnswer → List ℕ
-ofMatrix3 a =
-    outcome (a .outcome)
-    (a .matrix .row0 .x ∷ a .matrix .row0 .y ∷ a .matrix .row0 .z
-    ∷ a .matrix .row1 .x ∷ a .matrix .row1 .y ∷ a .matrix .row1 .z
-    ∷ a .matrix .row2 .x ∷ a .matrix .row2 .y ∷ a .matrix .row2 .z ∷ [])
+unfoldable pub ofMatrix3 : Matrix3Answer → List ℕ
+ofMatrix3 a = ofValues (Rotations.matrix a)
 
 unfoldable pub ofElement : Answer → List ℕ
-ofElement (Answer·Done e) = outcome Passed (Elements.coeffs e)
-ofElement (Answer·Refused r) = ofCheck (Refused r)
+ofElement a = ofValues (Elements.element a)
 
 unfoldable pub ofTangent : TangentAnswer → List ℕ
-ofTangent (Tangent·Done t) = outcome Passed (Tangents.coeffs t)
-ofTangent (Tangent·Refused r) = ofCheck (Refused r)
+ofTangent a = ofValues (Galilean.tangent a)
 
 unfoldable pub ofNumber : NumberAnswer → List ℕ
-ofNumber (Number·Done x) = outcome Passed (x ∷ [])
-ofNumber (Number·Refused r) = ofCheck (Refused r)
+ofNumber a = ofValues (Galilean.number a)
+
+abbrev pub ofCoeffs : CoeffsAnswer → List ℕ
+ofCoeffs a = ofValues (Galilean.coeffs a)
+
+abbrev pub ofMatrix5 : Matrix5Answer → List ℕ
+ofMatrix5 a = ofValues (Galilean.matrix a)
+
+abbrev pub ofActJacobian : ActJacobianAnswer → List ℕ
+ofActJacobian a = ofValues (Galilean.actJacobian a)
+
+abbrev pub ofHat : HatAnswer → List ℕ
+ofHat a = ofValues (Galilean.hat a)
 
 unfoldable pub ofMatrix10 : Matrix10Answer → List ℕ
-ofMatrix10 a = header (a .outcome) 100 ++ rowBits (a .rows)
+ofMatrix10 a = ofValues (Galilean.matrix10 a)
+
+unfoldable pub rowBits : List Row10 → List ℕ
+rowBits rows = bits (Galilean.rowValues rows)
 
 -- n bytes, at the start of what held `before` and holds `after`; they fit there
 pub record Put (n : ℕ) (before after bytes : List ℕ) : Type 0 where

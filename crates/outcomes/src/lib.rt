@@ -14,11 +14,13 @@ ghost use mathlib.Core.Path.{_≡_};
 ghost use Prim.Native.Nat.{_+_, _*_, _≤_};
 ghost use lib.ListN.{length};
 ghost use lib.Seq.{sets};
+ghost use Rattle.checks.specs.Refusals as Refusals;
+ghost use Rattle.checks.specs.Outcomes.{outcome};
 ghost use Rattle.outcomes.specs.Outcomes as Outcomes;
 
 // ---- Words
 fn first_figure(r: Refusal) -> u64
-    ensures { λ f. ⌜ f ≡ Outcomes.firstFigure r ⌝ }
+    ensures { λ f. ⌜ f ≡ Outcomes.firstFigure (Refusals.figures r) ⌝ }
 {
     match r {
         Refusal::Length {
@@ -33,7 +35,7 @@ fn first_figure(r: Refusal) -> u64
 }
 
 fn second_figure(r: Refusal) -> u64
-    ensures { λ f. ⌜ f ≡ Outcomes.secondFigure r ⌝ }
+    ensures { λ f. ⌜ f ≡ Outcomes.secondFigure (Refusals.figures r) ⌝ }
 {
     match r {
         Refusal::Length {
@@ -67,7 +69,7 @@ fn put_four(out: &mut [u8], a: u64, b: u64, c: u64, d: u64)
 // Before n values.
 fn put_header(out: &mut [u8], c: Check, n: u64)
     requires { ⌜ 32 ≤ length (now out) ⌝ }
-    ensures { λ _. ⌜ now (out .exit) ≡ sets (now (out .entry)) 0 (Outcomes.header c n) ⌝ }
+    ensures { λ _. ⌜ now (out .exit) ≡ sets (now (out .entry)) 0 (Outcomes.headerOf c n) ⌝ }
 {
     match c {
         Check::Passed => put_four(out, 0, 0, 0, n),
@@ -112,7 +114,7 @@ fn put_rows(out: &mut [u8], rows: [Row10; 10])
 // ---- An outcome: how many bytes it is, and the bytes at the start of out
 fn put_outcome(out: &mut [u8; 832], c: Check, values: &[f64]) -> usize
     requires { ⌜ length (now values) ≤ 100 ⌝ }
-    ensures { λ r. ⌜ Outcomes.Put r (now (out .entry)) (now (out .exit)) (Outcomes.outcome c (now (values .entry))) ⌝ }
+    ensures { λ r. ⌜ Outcomes.Put r (now (out .entry)) (now (out .exit)) (Outcomes.ofValues (outcome c (now (values .entry)))) ⌝ }
 {
     let n = values.len();
     put_header(out, c, n as u64);
@@ -240,31 +242,31 @@ pub fn put_number(out: &mut [u8; 832], a: NumberAnswer) -> usize
 
 // An array in a field is lent through a parameter.
 fn put_11(out: &mut [u8; 832], c: Check, values: &[f64; 11]) -> usize
-    ensures { λ r. ⌜ Outcomes.Put r (now (out .entry)) (now (out .exit)) (Outcomes.outcome c (now (values .entry))) ⌝ }
+    ensures { λ r. ⌜ Outcomes.Put r (now (out .entry)) (now (out .exit)) (Outcomes.ofValues (outcome c (now (values .entry)))) ⌝ }
 {
     put_outcome(out, c, values)
 }
 
 fn put_25(out: &mut [u8; 832], c: Check, values: &[f64; 25]) -> usize
-    ensures { λ r. ⌜ Outcomes.Put r (now (out .entry)) (now (out .exit)) (Outcomes.outcome c (now (values .entry))) ⌝ }
+    ensures { λ r. ⌜ Outcomes.Put r (now (out .entry)) (now (out .exit)) (Outcomes.ofValues (outcome c (now (values .entry)))) ⌝ }
 {
     put_outcome(out, c, values)
 }
 
 fn put_30(out: &mut [u8; 832], c: Check, values: &[f64; 30]) -> usize
-    ensures { λ r. ⌜ Outcomes.Put r (now (out .entry)) (now (out .exit)) (Outcomes.outcome c (now (values .entry))) ⌝ }
+    ensures { λ r. ⌜ Outcomes.Put r (now (out .entry)) (now (out .exit)) (Outcomes.ofValues (outcome c (now (values .entry)))) ⌝ }
 {
     put_outcome(out, c, values)
 }
 
 pub fn put_36(out: &mut [u8; 832], c: Check, values: &[f64; 36]) -> usize
-    ensures { λ r. ⌜ Outcomes.Put r (now (out .entry)) (now (out .exit)) (Outcomes.outcome c (now (values .entry))) ⌝ }
+    ensures { λ r. ⌜ Outcomes.Put r (now (out .entry)) (now (out .exit)) (Outcomes.ofValues (outcome c (now (values .entry)))) ⌝ }
 {
     put_outcome(out, c, values)
 }
 
 pub fn put_coeffs(out: &mut [u8; 832], a: CoeffsAnswer) -> usize
-    ensures { λ r. ⌜ Outcomes.Put r (now (out .entry)) (now (out .exit)) (Outcomes.outcome (a .outcome) (a .values)) ⌝ }
+    ensures { λ r. ⌜ Outcomes.Put r (now (out .entry)) (now (out .exit)) (Outcomes.ofCoeffs a) ⌝ }
 {
     let c = a.outcome;
     let values = a.values;
@@ -272,7 +274,7 @@ pub fn put_coeffs(out: &mut [u8; 832], a: CoeffsAnswer) -> usize
 }
 
 pub fn put_matrix5(out: &mut [u8; 832], a: sgal3_answers::MatrixAnswer) -> usize
-    ensures { λ r. ⌜ Outcomes.Put r (now (out .entry)) (now (out .exit)) (Outcomes.outcome (a .outcome) (a .values)) ⌝ }
+    ensures { λ r. ⌜ Outcomes.Put r (now (out .entry)) (now (out .exit)) (Outcomes.ofMatrix5 a) ⌝ }
 {
     let c = a.outcome;
     let values = a.values;
@@ -280,7 +282,7 @@ pub fn put_matrix5(out: &mut [u8; 832], a: sgal3_answers::MatrixAnswer) -> usize
 }
 
 pub fn put_act_jacobian(out: &mut [u8; 832], a: ActJacobianAnswer) -> usize
-    ensures { λ r. ⌜ Outcomes.Put r (now (out .entry)) (now (out .exit)) (Outcomes.outcome (a .outcome) (a .values)) ⌝ }
+    ensures { λ r. ⌜ Outcomes.Put r (now (out .entry)) (now (out .exit)) (Outcomes.ofActJacobian a) ⌝ }
 {
     let c = a.outcome;
     let values = a.values;
@@ -288,7 +290,7 @@ pub fn put_act_jacobian(out: &mut [u8; 832], a: ActJacobianAnswer) -> usize
 }
 
 pub fn put_hat(out: &mut [u8; 832], a: HatAnswer) -> usize
-    ensures { λ r. ⌜ Outcomes.Put r (now (out .entry)) (now (out .exit)) (Outcomes.outcome (a .outcome) (a .values)) ⌝ }
+    ensures { λ r. ⌜ Outcomes.Put r (now (out .entry)) (now (out .exit)) (Outcomes.ofHat a) ⌝ }
 {
     let c = a.outcome;
     let values = a.values;

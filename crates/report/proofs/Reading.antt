@@ -9,13 +9,15 @@ use lib.Dec.{ltb}
 use lib.ListN.{length, take}
 use lib.Seq.{take-all, length-take-le}
 use Rattle.checks.specs.Refusals.{number}
+use Rattle.checks.specs.declared.Refusal.the-variants.{Length}
 use Rattle.byte_chain.specs.Blocks as Blocks
 use Rattle.report_lines.specs.Lines.{refusal}
-use Rattle.report.specs.Text.{text, reportOf}
+use Rattle.report.specs.Text.{reportOf}
+use Rattle.report.proofs.Printed.{refused-text}
 
 too-long : (s : List ℕ) → 65472 < length s → reportOf s ≡ refusal 1
-unfolding reportOf Blocks.chain text number
-too-long s h = rw (lt-ltb _ _ h)
+unfolding reportOf Blocks.chain number
+too-long s h = rw (lt-ltb _ _ h) (refused-text (Length 65472 (length s)))
 
 -- whatever number of bytes above the longest chain's is read
 pub enough : (m : ℕ) (s : List ℕ) → 65472 < m → reportOf (take m s) ≡ reportOf s

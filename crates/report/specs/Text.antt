@@ -1,18 +1,18 @@
 -- What the program `chain` prints: eleven lines, or the line of a refusal. Definitions only.
 use Prim.Native.Nat.{ℕ, _≤_}
-use mathlib.Core.List.{List}
 use mathlib.Core.Path.{_≡_}
+use mathlib.Core.Bool.{cond}
+use mathlib.Core.List.{List}
+use lib.Dec.{eqb}
 use lib.ListN.{length, take}
-use Rattle.checks.specs.Refusals.{number}
-use Rattle.sgal3.specs.Elements.{coeffs}
+use Rattle.sgal3_composition.specs.Outcomes.{element}
 use Rattle.sgal3_composition.specs.declared.Answer.{Answer}
-use Rattle.sgal3_composition.specs.declared.Answer.the-variants.{Done, Refused}
 use Rattle.byte_chain.specs.Blocks as Blocks
 use Rattle.report_lines.specs.Lines.{lines, refusal}
 
+-- of an answer's outcome: where the number is 0 a line for each value, and otherwise the line of the number
 unfoldable pub text : Answer → List ℕ
-text (Done e) = lines 0 (coeffs e)
-text (Refused r) = refusal (number r)
+text answer = let o = element answer in cond (eqb (o .number) 0) (lines 0 (o .values)) (refusal (o .number))
 
 -- what is printed for an input, of which at most 65,472 bytes (744 blocks) are a chain
 unfoldable pub reportOf : List ℕ → List ℕ

@@ -3,16 +3,12 @@ use Prim.Native.Nat.{ℕ}
 use Prim.Native.String.{String}
 use mathlib.Core.List.{List, [], _∷_, _++_}
 use lib.ListN.{take}
-use Rattle.words.specs.Word.{bytesOf}
+use Rattle.words.specs.Word.{wordBytes}
 use Rattle.law.specs.Patterns.{half, one, two, three, four}
 
 pub record Worked : Type 0 where
   pub input : List ℕ
   pub said : String
-
-abbrev bytes : List ℕ → List ℕ
-bytes [] = []
-bytes (n ∷ ns) = bytesOf n ++ bytes ns
 
 abbrev largest : ℕ
 largest = 0x7fef_ffff_ffff_ffff
@@ -22,14 +18,14 @@ nan = 0xfff0_0000_0000_0001
 
 -- [1,2,3 | w,0,0,0 | 4,0,0 | s]
 abbrev aWith : ℕ → ℕ → List ℕ
-aWith w s = bytes (one ∷ two ∷ three ∷ w ∷ 0 ∷ 0 ∷ 0 ∷ four ∷ 0 ∷ 0 ∷ s ∷ [])
+aWith w s = wordBytes (one ∷ two ∷ three ∷ w ∷ 0 ∷ 0 ∷ 0 ∷ four ∷ 0 ∷ 0 ∷ s ∷ [])
 
 -- A and B of the bench list
 abbrev a : List ℕ
 a = aWith one half
 
 abbrev b : List ℕ
-b = bytes (one ∷ one ∷ one ∷ one ∷ 0 ∷ 0 ∷ 0 ∷ 0 ∷ two ∷ 0 ∷ two ∷ [])
+b = wordBytes (one ∷ one ∷ one ∷ one ∷ 0 ∷ 0 ∷ 0 ∷ 0 ∷ two ∷ 0 ∷ two ∷ [])
 
 unfoldable pub examples : List Worked
 examples =

@@ -2,9 +2,9 @@
 use Prim.Native.Nat.{ℕ, zero, suc, _-_, _/_, _%_}
 use mathlib.Core.Bool.{cond}
 use mathlib.Core.List.{List}
-use lib.Dec.{eqb, ltb}
-use lib.ListN.{length, take, drop}
-use lib.Ieee.{Float}
+use lib.Dec.{T, eqb, ltb}
+use lib.ListN.{length, getD, take, drop}
+use lib.Ieee.{Float, nan, binary64, fits}
 use Rattle.checks.specs.Refusals.{earlier}
 use Rattle.checks.specs.Checks.{tolerance, allFinite, checkParamBlock}
 use Rattle.checks.specs.declared.Refusal.the-variants.{Length, Overflow}
@@ -14,6 +14,10 @@ use Rattle.sgal3.specs.Elements as Elements
 use Rattle.sgal3.specs.declared.Element.{Element}
 use Rattle.sgal3_composition.specs.declared.Answer.{Answer}
 use Rattle.sgal3_composition.specs.declared.Answer.the-variants.{Done, Refused}
+
+-- every value is a binary64, as every f64 is: what the theorems on times need to know of a block beyond its values
+abbrev pub Binary64 : List Float → Type 0
+Binary64 s = (i : ℕ) → T (fits binary64 (getD s i nan))
 
 abbrev pub ofCheck : Element → Check → Answer
 ofCheck e Passed = Done e

@@ -131,6 +131,7 @@ pub fn inverse_answer(block: Answer) -> Answer
 
 pub fn compose(left: &[f64], right: &[f64]) -> Answer
     ensures { λ r. ⌜ r ≡ Calls.compose (now (left .entry)) (now (right .entry)) ⌝ }
+    ensures { λ _. ⌜ Calls.Binary64 (now (right .entry)) ⌝ }
 {
     compose_answers(
         check_element(left, checks::tolerance()),
@@ -164,6 +165,7 @@ fn chain_blocks(s: &[f64]) -> Answer
 // Up to 4,096 blocks, laid end to end.
 pub fn chain(blocks: &[f64]) -> Answer
     ensures { λ r. ⌜ r ≡ Calls.chain (now (blocks .entry)) ⌝ }
+    ensures { λ _. ⌜ Calls.Binary64 (now (blocks .entry)) ⌝ }
 {
     let actual = blocks.len();
     if 45056 < actual {

@@ -1,6 +1,7 @@
 -- What the calls on blocks of SO(3) answer: values that are all finite, or the refusal. Definitions only.
 use mathlib.Core.Bool.{Bool, cond}
-use mathlib.Core.List.{[], _∷_}
+use mathlib.Core.List.{List, [], _∷_}
+use lib.Ieee.{Float}
 use Rattle.law.specs.Rounded.{rounded}
 use Rattle.checks.specs.Checks.{allFinite}
 use Rattle.checks.specs.declared.Refusal.{Refusal}
@@ -18,12 +19,23 @@ use Rattle.so3_answers.specs.declared.VectorAnswer.{VectorAnswer}
 use Rattle.so3_answers.specs.declared.VectorAnswer.the-variants.{Done as VectorAnswer·Done, Refused as VectorAnswer·Refused}
 use Rattle.so3_answers.specs.declared.MatrixAnswer.{MatrixAnswer}
 
+-- ---- the values of what is answered
+abbrev pub elementValues : Element → List Float
+elementValues a = a .params .w ∷ a .params .x ∷ a .params .y ∷ a .params .z ∷ []
+
+abbrev pub vectorValues : Vec3 → List Float
+vectorValues v = v .x ∷ v .y ∷ v .z ∷ []
+
+-- by row
+abbrev pub matrixValues : Mat3 → List Float
+matrixValues m = m .row0 .x ∷ m .row0 .y ∷ m .row0 .z ∷ m .row1 .x ∷ m .row1 .y ∷ m .row1 .z ∷ m .row2 .x ∷ m .row2 .y ∷ m .row2 .z ∷ []
+
+-- ---- the answers
 unfoldable pub elementAnswer : Element → Answer
-elementAnswer a =
-    cond (allFinite (a .params .w ∷ a .params .x ∷ a .params .y ∷ a .params .z ∷ [])) (Answer·Done a) (Answer·Refused Overflow)
+elementAnswer a = cond (allFinite (elementValues a)) (Answer·Done a) (Answer·Refused Overflow)
 
 unfoldable pub finiteVector : Vec3 → Bool
-finiteVector v = allFinite (v .x ∷ v .y ∷ v .z ∷ [])
+finiteVector v = allFinite (vectorValues v)
 
 unfoldable pub tangentAnswer : Tangent → TangentAnswer
 tangentAnswer t = cond (finiteVector (t .theta)) (TangentAnswer·Done t) (TangentAnswer·Refused Overflow)
@@ -39,8 +51,4 @@ unfoldable pub refusedMatrix : Refusal → MatrixAnswer
 refusedMatrix r = record { outcome = Check·Refused r; matrix = record { row0 = zeroRow; row1 = zeroRow; row2 = zeroRow } }
 
 unfoldable pub matrixAnswer : Mat3 → MatrixAnswer
-matrixAnswer m =
-    cond
-    (allFinite (m .row0 .x ∷ m .row0 .y ∷ m .row0 .z ∷ m .row1 .x ∷ m .row1 .y ∷ m .row1 .z ∷ m .row2 .x ∷ m .row2 .y ∷ m .row2 .z ∷ []))
-    (record { outcome = Passed; matrix = m })
-    (refusedMatrix Overflow)
+matrixAnswer m = cond (allFinite (matrixValues m)) (record { outcome = Passed; matrix = m }) (refusedMatrix Overflow)

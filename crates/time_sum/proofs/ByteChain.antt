@@ -4,28 +4,29 @@ use Prim.Native.Nat.{ℕ, zero, suc, _+_, _-_, _*_, _/_, _%_, _^_, _≤_}
 use mathlib.Core.Path.{_≡_}
 use mathlib.Core.List.{List}
 use native.Mathlib.Nat.{le-trans, mul-le-mul-right}
-use lib.Dec.{T, ltb, eqb}
+use lib.Dec.{ltb, eqb}
 use lib.IntN.{natAbs, _-ℤ_}
-use lib.ListN.{length, getD}
-use lib.Ieee.{Float, nan, binary64, fits}
+use lib.ListN.{length}
+use lib.Ieee.{Float, binary64}
 use lib.Ieee.Bits.{ofBits-fits}
 use lib.Ieee.Fits.{nan-fits}
 use Rattle.float.specs.Exact.{exact}
 use Rattle.words.specs.Word.{valueAt, wordAt}
 use Rattle.sgal3.specs.declared.Element.{Element}
+use Rattle.sgal3_composition.specs.Calls as Calls
 use Rattle.sgal3_composition.specs.declared.Answer.the-variants.{Done}
 use Rattle.element_bytes.specs.Bytes.{valuesAt}
 use Rattle.byte_chain.specs.Blocks.{chainBlocks, chain}
 use Rattle.time_sum.specs.RunningSum.{blocks, exactSum, magnitudeSum}
 use Rattle.time_sum.proofs.Times.{passed}
-use Rattle.time_sum.proofs.TimeSum.{Values, values-blocks, chained, one-less}
+use Rattle.time_sum.proofs.TimeSum.{values-blocks, chained, one-less}
 
-values : (n : ℕ) (s : List ℕ) (at : ℕ) → Values (valuesAt n s at)
+values : (n : ℕ) (s : List ℕ) (at : ℕ) → Calls.Binary64 (valuesAt n s at)
 unfolding valuesAt valueAt
 values zero s at = λ i. nan-fits binary64
 values (suc n) s at = go (values n s (at + 8))
   where
-    go : Values (valuesAt n s (at + 8)) → (i : ℕ) → T (fits binary64 (getD (valuesAt (suc n) s at) i nan))
+    go : Calls.Binary64 (valuesAt n s (at + 8)) → Calls.Binary64 (valuesAt (suc n) s at)
     go f zero = ofBits-fits binary64 (wordAt s at)
     go f (suc i) = f i
 

@@ -7,8 +7,8 @@ use native.Mathlib.Nat.{le-trans, mul-le-mul-right, add-zero, zero-add, add-asso
 use native.Mathlib.Omega.{arith}
 use lib.Dec.{T, ltb, eqb}
 use lib.IntN.{ℤ, pos, natAbs, _+ℤ_, _-ℤ_, +ℤ-assoc, +ℤ-idl, +ℤ-idr}
-use lib.ListN.{length, getD, take, drop}
-use lib.Ieee.{Float, nan, binary64, add, fits}
+use lib.ListN.{length, take, drop}
+use lib.Ieee.{Float, binary64, add, fits}
 use lib.Ieee.Fits.{nan-fits}
 use Rattle.checks.specs.Checks.{tolerance}
 use Rattle.float.specs.Exact.{exact, count}
@@ -112,24 +112,21 @@ chained n s c h f =
     (chain-from n s (Done Elements.identity) Elements.identity c refl h f i .bound)
 
 -- ---- a chain's values are binary64, so those of its blocks are
-abbrev pub Values : List Float → Type 0
-Values s = (i : ℕ) → T (fits binary64 (getD s i nan))
-
-values-take : (n : ℕ) (s : List Float) → Values s → Values (take n s)
+values-take : (n : ℕ) (s : List Float) → Calls.Binary64 s → Calls.Binary64 (take n s)
 values-take zero s f = λ i. nan-fits binary64
 values-take (suc n) [] f = f
 values-take (suc n) (x ∷ s) f = go (values-take n s (λ i. f (suc i)))
   where
-    go : Values (take n s) → Values (x ∷ take n s)
+    go : Calls.Binary64 (take n s) → Calls.Binary64 (x ∷ take n s)
     go g zero = f 0
     go g (suc i) = g i
 
-values-drop : (n : ℕ) (s : List Float) → Values s → Values (drop n s)
+values-drop : (n : ℕ) (s : List Float) → Calls.Binary64 s → Calls.Binary64 (drop n s)
 values-drop zero s f = f
 values-drop (suc n) [] f = f
 values-drop (suc n) (x ∷ s) f = values-drop n s (λ i. f (suc i))
 
-pub values-blocks : (n : ℕ) (s : List Float) → Values s → Binary64 (blocks n s)
+pub values-blocks : (n : ℕ) (s : List Float) → Calls.Binary64 s → Binary64 (blocks n s)
 unfolding blocks
 values-blocks zero s f = tt
 values-blocks (suc n) s f = (values-take 11 s f, values-blocks n (drop 11 s) (values-drop 11 s f))
@@ -140,10 +137,10 @@ unfolding Calls.chain
 whole s c = passed (ltb 45056 (length s)) (eqb (length s % 11) 0) _ _ _
 
 -- the same promise of every chain that is not refused: n is the number of its blocks
-pub chain-time-sum-sharp : (s : List Float) → ((i : ℕ) → T (fits binary64 (getD s i nan))) → (c : Element) → Calls.chain s ≡ Done c
+pub chain-time-sum-sharp : (s : List Float) → Calls.Binary64 s → (c : Element) → Calls.chain s ≡ Done c
     → 2 ^ 53 * natAbs (exact (c .time) -ℤ exactSum (blocks (length s / 11) s)) ≤ (length s / 11 - 1) * magnitudeSum (blocks (length s / 11) s)
 chain-time-sum-sharp s f c h = chained (length s / 11) s c (whole s c h) (values-blocks (length s / 11) s f)
 
-pub chain-time-sum : (s : List Float) → ((i : ℕ) → T (fits binary64 (getD s i nan))) → (c : Element) → Calls.chain s ≡ Done c
+pub chain-time-sum : (s : List Float) → Calls.Binary64 s → (c : Element) → Calls.chain s ≡ Done c
     → 2 ^ 53 * natAbs (exact (c .time) -ℤ exactSum (blocks (length s / 11) s)) ≤ length s / 11 * magnitudeSum (blocks (length s / 11) s)
 chain-time-sum s f c h = le-trans (chain-time-sum-sharp s f c h) (mul-le-mul-right (magnitudeSum (blocks (length s / 11) s)) (one-less (length s / 11)))

@@ -1,1 +1,2 @@
 pub mod RunningSum
+pub mod EntryRuns

@@ -1,10 +1,9 @@
 -- A run of compose calls beside the exact sum of its steps' times. Definitions only.
 use Prim.Native.Nat.{ℕ, zero, suc, _+_, _*_, _^_, _≤_}
 use mathlib.Core.List.{List, [], _∷_}
-use lib.Dec.{T}
 use lib.IntN.{ℤ, pos, natAbs, _+ℤ_, _-ℤ_}
 use lib.ListN.{getD, take, drop}
-use lib.Ieee.{Float, nan, binary64, fits}
+use lib.Ieee.{Float, nan}
 use Rattle.float.specs.Exact.{exact, count}
 use Rattle.sgal3.specs.Elements.{identity, coeffs}
 use Rattle.sgal3_composition.specs.Calls as Calls
@@ -37,10 +36,10 @@ unfoldable pub after : RunningSum → List (List Float) → RunningSum
 after b [] = b
 after b (step ∷ steps) = after (entered b step (Calls.compose (coeffs (b .held)) step)) steps
 
--- The only hypothesis: every value of every block is a binary64. Of a slice of f64 the language says so.
+-- The only hypothesis, of every step's block. The contract of the call `compose` ensures it of the step that it was handed, and that of `chain` of its blocks.
 abbrev pub Binary64 : List (List Float) → Type 0
 Binary64 [] = Unit {0}
-Binary64 (block ∷ blocks) = ((i : ℕ) → T (fits binary64 (getD block i nan))) × Binary64 blocks
+Binary64 (block ∷ blocks) = Calls.Binary64 block × Binary64 blocks
 
 -- 2 ^ 53 times the distance of the held time from the exact sum is at most k * M
 abbrev pub Within : ℕ → RunningSum → Type 0

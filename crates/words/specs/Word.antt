@@ -1,6 +1,6 @@
 -- A word of eight little-endian bytes, and the number whose bits it is. Definitions only.
 use Prim.Native.Nat.{ℕ, _+_, _*_, _/_, _%_}
-use mathlib.Core.List.{List, [], _∷_}
+use mathlib.Core.List.{List, [], _∷_, _++_}
 use lib.ListN.{getD}
 use lib.Ieee.{Float, binary64, ofBits}
 
@@ -31,3 +31,8 @@ bytesOf n =
     ∷ n / 0x1_0000_0000_0000 % 256
     ∷ n / 0x100_0000_0000_0000 % 256
     ∷ []
+
+-- the bytes of words, one after the other
+unfoldable pub wordBytes : List ℕ → List ℕ
+wordBytes [] = []
+wordBytes (n ∷ ns) = bytesOf n ++ wordBytes ns

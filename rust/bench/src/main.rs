@@ -4,6 +4,7 @@
 //! of its rounds. First all answers are compared, bit for bit.
 mod calls;
 mod plain;
+mod runs;
 
 use handset::entries::{sgal3_chain, sgal3_compose, sgal3_inverse};
 use handset::{Element, CHAIN_MOST, ELEMENT_BYTES};
@@ -287,6 +288,8 @@ fn main() {
     println!();
     chain_table(&classes);
     println!();
+    run_table(&classes);
+    println!();
     call_table();
 }
 
@@ -328,6 +331,19 @@ fn chain_table(classes: &[Class]) {
                 ours / plain
             );
         }
+    }
+}
+
+/// The table of runs in which each call waits for the last.
+fn run_table(classes: &[Class]) {
+    println!("| quaternions | by turns, ns | copied back, ns | in place, ns | in place / by turns |");
+    println!("|---|---:|---:|---:|---:|");
+    for (name, steps) in classes {
+        let [turns, copied, in_place] = runs::times(steps);
+        println!(
+            "| {name} | {turns:.1} | {copied:.1} | {in_place:.1} | {:.2} |",
+            in_place / turns
+        );
     }
 }
 

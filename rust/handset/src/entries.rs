@@ -5,7 +5,7 @@
 #![allow(unsafe_code)]
 
 extern "C" {
-    /// Compose. The pointers are not null and as long as they say, and `out` overlaps no input; so for all three.
+    /// Compose. The pointers are not null and as long as they say, and `out` overlaps no input; so for all.
     pub fn sgal3_compose(
         left: *const u8,
         left_len: usize,
@@ -13,6 +13,13 @@ extern "C" {
         right_len: usize,
         out: *mut u8,
         out_len: usize,
+    ) -> u32;
+    /// Compose, stored over the left block.
+    pub fn sgal3_compose_in_place(
+        held: *mut u8,
+        held_len: usize,
+        step: *const u8,
+        step_len: usize,
     ) -> u32;
     /// Inverse.
     pub fn sgal3_inverse(block: *const u8, block_len: usize, out: *mut u8, out_len: usize) -> u32;
@@ -34,6 +41,13 @@ pub fn compose(left: &[u8], right: &[u8], out: &mut [u8]) -> u32 {
             out.len(),
         )
     }
+}
+
+/// The step `step` taken after the element held, stored over it.
+pub fn compose_in_place(held: &mut [u8], step: &[u8]) -> u32 {
+    // SAFETY: each pointer and length are those of one slice: not null, also where it is empty, and valid for the call.
+    // `held` is borrowed mutably, so it doesn't overlap `step`. The entry takes slices of every length.
+    unsafe { sgal3_compose_in_place(held.as_mut_ptr(), held.len(), step.as_ptr(), step.len()) }
 }
 
 /// The step that undoes `block`, stored in `out`.

@@ -1,11 +1,12 @@
 -- `bench_lines::element_number` meets its contract. Assumes nothing.
 use borrow.Author.Needs.{needs}
-use Rattle.bench_lines.specs.Numbers as Numbers
+use Rattle.checks.specs.Outcomes.{outcome}
+use Rattle.sgal3_composition.specs.Outcomes as Elements
 use Rattle.bench_lines.proofs.element_number.Statement.{statement}
 use Rattle.bench_lines.proofs.element_number.Tie as tie
 
 pub element-number-spec : {M : Type 1} → statement M
-unfolding Numbers.element
+unfolding Elements.element outcome
 element-number-spec =
     tie.close
     (tie.spec

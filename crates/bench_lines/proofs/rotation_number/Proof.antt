@@ -1,11 +1,12 @@
 -- `bench_lines::rotation_number` meets its contract. Assumes nothing.
 use borrow.Author.Needs.{needs}
-use Rattle.bench_lines.specs.Numbers as Numbers
+use Rattle.checks.specs.Outcomes.{outcome}
+use Rattle.so3_answers.specs.Outcomes as Rotations
 use Rattle.bench_lines.proofs.rotation_number.Statement.{statement}
 use Rattle.bench_lines.proofs.rotation_number.Tie as tie
 
 pub rotation-number-spec : {M : Type 1} → statement M
-unfolding Numbers.rotation
+unfolding Rotations.element outcome
 rotation-number-spec =
     tie.close
     (tie.spec

@@ -1,11 +1,12 @@
 -- `bench_lines::tangent_number` meets its contract. Assumes nothing.
 use borrow.Author.Needs.{needs}
-use Rattle.bench_lines.specs.Numbers as Numbers
+use Rattle.checks.specs.Outcomes.{outcome}
+use Rattle.sgal3_answers.specs.Outcomes as Galilean
 use Rattle.bench_lines.proofs.tangent_number.Statement.{statement}
 use Rattle.bench_lines.proofs.tangent_number.Tie as tie
 
 pub tangent-number-spec : {M : Type 1} → statement M
-unfolding Numbers.tangent
+unfolding Galilean.tangent outcome
 tangent-number-spec =
     tie.close
     (tie.spec

@@ -24,9 +24,9 @@ chain-blocks-spec =
     (tie.spec
     (λ c κs. search needs)
     (λ c. search needs)
+    (λ c. search needs)
     element-requires
     _
-    (λ c. search needs)
-    (λ c κs. search needs)
     returns
+    (λ c κs. search needs)
     returns-2)

@@ -11,7 +11,7 @@ use Rattle.element_bytes.specs.Bytes.{valuesAt}
 use Rattle.sgal3_composition.specs.Calls.{chainFrom}
 use Rattle.sgal3_composition.specs.declared.Answer.the-variants.{Done}
 use Rattle.sgal3_composition.proofs.Answers.{finished, overflowed}
-use Rattle.byte_chain.proofs.ByteBlocks.{goes-on, stops, end}
+use Rattle.byte_chain.proofs.ByteBlocks.{goes-on, stops-by, end}
 use Rattle.byte_chain.proofs.compose_blocks.Statement.{statement}
 use Rattle.byte_chain.proofs.compose_blocks.Tie as tie
 
@@ -29,34 +29,34 @@ loop-holds c = (omega arith, refl)
 check-values-requires : tie.Need-check-values-requires Inv-loop μ-loop
 check-values-requires c κs = omega arith
 
-earliest-requires : tie.Need-earliest-requires Inv-loop μ-loop
-earliest-requires c κs = omega arith
+ended-requires : tie.Need-ended-requires Inv-loop μ-loop
+ended-requires c κs = omega arith
 
 returns : tie.Need-returns Inv-loop μ-loop
 returns c =
-    let l = c .before .before .before .before .before .before .loop in
-    c .earliest .ensures
-    ∙ sym (stops (l .held) _ (l .left) _ (l .at) (c .before .before .before .before .before .loop-test .taken) (sym (c .before .before .before .before .check-values .ensures) ∙ c .before .before .r .given .1))
+    let l = c .before .before .before .before .before .loop in
+    c .ended .ensures
+    ∙ stops-by (l .held) _ _ (l .left) _ (l .at) (c .before .before .before .before .loop-test .taken) (sym (c .before .before .before .check-values .ensures)) (c .before .enum-told2 .given .1)
     ∙ sym (l .inv .1)
 
 element-requires : tie.Need-element-requires Inv-loop μ-loop
 element-requires c κs = (omega arith, passed-finite _ 11 3 _ (sym (c .before .before .check-values .ensures) ∙ c .enum-told .given .1))
 
-add-earliest-2 : tie.Need-add-earliest-2 Inv-loop μ-loop
-add-earliest-2 c = omega (arith, c .before .before .before .before .before .before .before .before .before .before .loop .inv .0, c .before .before .before .before .before .before .before .before .before .loop-test .taken, c .before .before .before .before .before .before .before .before .before .before .before .before .good)
+add-earliest : tie.Need-add-earliest Inv-loop μ-loop
+add-earliest c = omega (arith, c .before .before .before .before .before .before .before .before .before .before .loop .inv .0, c .before .before .before .before .before .before .before .before .before .loop-test .taken, c .before .before .before .before .before .before .before .before .before .before .before .before .good)
 
-earliest-requires-2 : tie.Need-earliest-requires-2 Inv-loop μ-loop
-earliest-requires-2 c κs = omega arith
+earliest-requires : tie.Need-earliest-requires Inv-loop μ-loop
+earliest-requires c κs = omega (arith, c .before .before .before .before .before .before .before .before .before .before .loop .inv .0, c .before .before .before .before .before .before .before .before .before .loop-test .taken)
+
+add-at : tie.Need-add-at Inv-loop μ-loop
+add-at c = omega (arith, c .before .before .before .before .before .before .before .before .before .before .loop .inv .0, c .before .before .before .before .before .before .before .before .before .loop-test .taken, c .before .before .before .before .before .before .before .before .before .before .before .before .good)
 
 returns-2 : tie.Need-returns-2 Inv-loop μ-loop
 returns-2 c =
     let l = c .before .before .before .before .before .before .before .before .before .before .before .loop in
-    c .earliest2 .ensures
+    c .earliest .ensures
     ∙ sym (goes-on (l .held) (l .left) _ (l .at) (c .before .before .before .before .before .before .before .before .before .before .loop-test .taken) (sym (c .before .before .before .before .before .before .before .before .before .check-values .ensures) ∙ c .before .before .before .before .before .before .before .enum-told .given .1) ∙ rw (← c .before .before .before .before .before .before .element .ensures, ← c .before .before .before .before .before .compose .ensures, overflowed (c .before .before .before .before .before .compose .result) (ap allFinite (sym (c .before .before .before .before .coeffs .ensures)) ∙ sym (c .before .before .all-finite .ensures) ∙ not-true (c .before .before .all-finite .result) (c .before .if1 .taken))))
     ∙ sym (l .inv .1)
-
-add-at : tie.Need-add-at Inv-loop μ-loop
-add-at c = omega (arith, c .before .before .before .before .before .before .before .before .before .before .loop .inv .0, c .before .before .before .before .before .before .before .before .before .loop-test .taken, c .before .before .before .before .before .before .before .before .before .before .before .before .good)
 
 loop-again : tie.Need-loop-again Inv-loop μ-loop
 loop-again c =
@@ -84,15 +84,15 @@ compose-blocks-spec =
     (λ c. search needs)
     (λ c. omega arith)
     (λ c. omega arith)
-    earliest-requires
+    ended-requires
     returns
     element-requires
     _ _
     (λ c. search needs)
     _
-    add-earliest-2
+    add-earliest
     (λ c. omega arith)
-    earliest-requires-2
+    earliest-requires
     returns-2
     add-at
     (λ c. omega arith)

@@ -1,7 +1,6 @@
 -- `byte_chain::earliest` meets its contract: what is left of the chain, after a refusal that is held, gives the answer. Assumes nothing.
 use Prim.Native.Nat.{_+_, _*_, _≤_}
 use mathlib.Core.Path.{_≡_, refl, sym, _∙_}
-use mathlib.Core.Logic.{⊎-elim}
 use native.Mathlib.Omega.{arith}
 use borrow.Author.Needs.{needs}
 use lib.ListN.{length}
@@ -26,15 +25,19 @@ loop-holds c = (omega arith, refl)
 check-values-requires : tie.Need-check-values-requires Inv-loop μ-loop
 check-values-requires c κs = omega arith
 
+-- after a block that passed, and after one that is refused
 loop-again : tie.Need-loop-again Inv-loop μ-loop
 loop-again c =
-    let l = c .before .before .before .loop in (
+    let l = c .before .before .before .before .loop in (
       omega arith,
-      l .inv .1
-          ∙ ⊎-elim
-          (λ w. passed-by (l .held) (l .rest) _ (l .place) (omega arith) (sym (c .before .check-values .ensures) ∙ w .1 .given .1) ∙ rw (w .2))
-          (λ w. refused-by (l .held) _ (l .rest) _ (l .place) (omega arith) (sym (c .before .check-values .ensures) ∙ w .1 .given .1) ∙ rw (w .4, w .3 .ensures))
-          (c .match .came),
+      l .inv .1 ∙ passed-by (l .held) (l .rest) _ (l .place) (omega arith) (sym (c .before .before .check-values .ensures) ∙ c .enum-told .given .1),
+    )
+
+loop-again-2 : tie.Need-loop-again-2 Inv-loop μ-loop
+loop-again-2 c =
+    let l = c .before .before .before .before .before .before .loop in (
+      omega arith,
+      l .inv .1 ∙ refused-by (l .held) _ (l .rest) _ (l .place) (omega arith) (sym (c .before .before .before .before .check-values .ensures) ∙ c .before .before .r .given .1) ∙ rw (← c .earlier .ensures),
     )
 
 returns : tie.Need-returns Inv-loop μ-loop
@@ -49,12 +52,14 @@ earliest-spec =
     Inv-loop
     μ-loop
     loop-holds
+    (λ c. omega arith)
+    (λ c. omega arith)
     check-values-requires
     (λ c. search needs)
     (λ c. search needs)
-    _
-    (λ c. omega arith)
-    (λ c. omega arith)
     (λ c. omega arith)
     loop-again
+    _
+    (λ c. omega arith)
+    loop-again-2
     returns)

@@ -2,7 +2,7 @@
 use mathlib.Core.Path.{sym, ap, subst, _∙_}
 use native.Mathlib.Omega.{arith}
 use lib.Dec.{T}
-use lib.Ieee.{binary64}
+use lib.Ieee.{binary64, ofBits, div}
 use lib.Ieee.Bits.{ofBits-toBits}
 use Rattle.float.specs.Root.{squareRoot}
 use Rattle.float.proofs.Nan.{not-nan, not-nan-pattern}
@@ -12,6 +12,7 @@ use Rattle.float.proofs.sqrt.Statement.{statement}
 use Rattle.float.proofs.sqrt.Tie as tie
 
 returns : tie.Need-returns
+unfolding ofBits div
 returns c = of-nan (c .before .args .x) (c .if1 .taken)
 
 float-to-bits-b : tie.Need-float-to-bits-b

@@ -10,9 +10,9 @@ unfolding Requests.elementCall
 element-call-spec =
     tie.close
     (tie.spec _ _ _ _ _ _ _ _ _ _ _ _ _ _ _ _ _ _
-    (λ c. rw (c .before .before .before .match .keys1, ← c .before .compose .ensures) (c .put-element .ensures))
+    (λ c. rw (c .before .before .before .match .keys1, ← c .before .compose .ensures .0) (c .put-element .ensures))
     (λ c. rw (c .before .before .before .match .keys2, ← c .before .inverse .ensures) (c .put-element2 .ensures))
-    (λ c. rw (c .before .before .before .match .keys3, ← c .before .chain .ensures) (c .put-element3 .ensures))
+    (λ c. rw (c .before .before .before .match .keys3, ← c .before .chain .ensures .0) (c .put-element3 .ensures))
     (λ c. rw (c .before .before .before .match .keys4, ← c .before .translation .ensures) (c .put-vector .ensures))
     (λ c. rw (c .before .before .before .match .keys5, ← c .before .velocity .ensures) (c .put-vector2 .ensures))
     (λ c. rw (c .before .before .before .match .keys6, ← c .before .time .ensures) (c .put-number .ensures))

@@ -46,11 +46,11 @@ sgal3-inverse-spec =
     returns-2
     (λ c κs. search needs)
     (λ c. search needs)
+    (λ c. search needs)
     element-requires
     _ _
     finish-requires
     (λ c. search needs)
-    _
-    (λ c. search needs)
     returns-3
+    _
     returns-4)

@@ -1,11 +1,12 @@
 -- `outcomes::first_figure` meets its contract. Assumes nothing.
 use borrow.Author.Needs.{needs}
+use Rattle.checks.specs.Refusals as Refusals
 use Rattle.outcomes.specs.Outcomes as Outcomes
 use Rattle.outcomes.proofs.first_figure.Statement.{statement}
 use Rattle.outcomes.proofs.first_figure.Tie as tie
 
 pub first-figure-spec : {M : Type 1} → statement M
-unfolding Outcomes.firstFigure
+unfolding Outcomes.firstFigure Refusals.figures
 first-figure-spec =
     tie.close
     (tie.spec

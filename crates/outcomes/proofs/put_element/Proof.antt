@@ -1,11 +1,12 @@
 -- `outcomes::put_element` meets its contract. Assumes nothing.
 use borrow.Author.Needs.{needs}
+use Rattle.sgal3_composition.specs.Outcomes as Elements
 use Rattle.outcomes.specs.Outcomes as Outcomes
 use Rattle.outcomes.proofs.put_element.Statement.{statement}
 use Rattle.outcomes.proofs.put_element.Tie as tie
 
 pub put-element-spec : {M : Type 1} → statement M
-unfolding Outcomes.ofElement
+unfolding Outcomes.ofElement Elements.element Outcomes.ofCheck
 put-element-spec =
     tie.close
     (tie.spec

@@ -1,11 +1,12 @@
 -- `outcomes::put_header` meets its contract. Assumes nothing.
 use borrow.Author.Needs.{needs}
+use Rattle.checks.specs.Outcomes.{outcome}
 use Rattle.outcomes.specs.Outcomes as Outcomes
 use Rattle.outcomes.proofs.put_header.Statement.{statement}
 use Rattle.outcomes.proofs.put_header.Tie as tie
 
 pub put-header-spec : {M : Type 1} → statement M
-unfolding Outcomes.header
+unfolding Outcomes.headerOf Outcomes.header Outcomes.firstFigure Outcomes.secondFigure outcome
 put-header-spec =
     tie.close
     (tie.spec

@@ -1,11 +1,12 @@
 -- `outcomes::put_number` meets its contract. Assumes nothing.
 use borrow.Author.Needs.{needs}
+use Rattle.sgal3_answers.specs.Outcomes as Galilean
 use Rattle.outcomes.specs.Outcomes as Outcomes
 use Rattle.outcomes.proofs.put_number.Statement.{statement}
 use Rattle.outcomes.proofs.put_number.Tie as tie
 
 pub put-number-spec : {M : Type 1} → statement M
-unfolding Outcomes.ofNumber
+unfolding Outcomes.ofNumber Galilean.number Outcomes.ofCheck
 put-number-spec =
     tie.close
     (tie.spec

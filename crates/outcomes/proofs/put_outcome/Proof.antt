@@ -1,19 +1,19 @@
 -- `outcomes::put_outcome` meets its contract: the header, then the values. Assumes nothing.
+use mathlib.Core.Path.{sym, ap, _∙_}
+use lib.Seq.{sets}
 use denote.Ref.{now}
 use borrow.Author.Needs.{needs}
-use Rattle.outcomes.specs.Outcomes as Outcomes
-use Rattle.outcomes.proofs.Stores.{outcome-count, after-header}
+use Rattle.outcomes.proofs.Stores.{outcome-count, of-values, after-header}
 use Rattle.outcomes.proofs.put_outcome.Statement.{statement}
 use Rattle.outcomes.proofs.put_outcome.Tie as tie
 
 returns : tie.Need-returns
-unfolding Outcomes.outcome
 returns c =
     let at-header = c .before .before in
     let start = at-header .before .before .before in
     record {
       returned = outcome-count (start .args .c) (now (start .args .values));
-      stored = rw (c .put-values .ensures, at-header .put-header .ensures) (after-header _ _ _ _);
+      stored = rw (c .put-values .ensures, at-header .put-header .ensures) (after-header _ _ _ _ ∙ ap (sets _ 0) (sym (of-values _ _)));
       fits = search needs;
     }
 

@@ -1,11 +1,12 @@
 -- `outcomes::put_rotation` meets its contract. Assumes nothing.
 use borrow.Author.Needs.{needs}
+use Rattle.so3_answers.specs.Outcomes as Rotations
 use Rattle.outcomes.specs.Outcomes as Outcomes
 use Rattle.outcomes.proofs.put_rotation.Statement.{statement}
 use Rattle.outcomes.proofs.put_rotation.Tie as tie
 
 pub put-rotation-spec : {M : Type 1} → statement M
-unfolding Outcomes.ofRotation
+unfolding Outcomes.ofRotation Rotations.element Outcomes.ofCheck
 put-rotation-spec =
     tie.close
     (tie.spec

@@ -1,11 +1,12 @@
 -- `outcomes::put_rotation_tangent` meets its contract. Assumes nothing.
 use borrow.Author.Needs.{needs}
+use Rattle.so3_answers.specs.Outcomes as Rotations
 use Rattle.outcomes.specs.Outcomes as Outcomes
 use Rattle.outcomes.proofs.put_rotation_tangent.Statement.{statement}
 use Rattle.outcomes.proofs.put_rotation_tangent.Tie as tie
 
 pub put-rotation-tangent-spec : {M : Type 1} → statement M
-unfolding Outcomes.ofRotationTangent
+unfolding Outcomes.ofRotationTangent Rotations.tangent Outcomes.ofCheck
 put-rotation-tangent-spec =
     tie.close
     (tie.spec

@@ -1,11 +1,12 @@
 -- `outcomes::put_tangent` meets its contract. Assumes nothing.
 use borrow.Author.Needs.{needs}
+use Rattle.sgal3_answers.specs.Outcomes as Galilean
 use Rattle.outcomes.specs.Outcomes as Outcomes
 use Rattle.outcomes.proofs.put_tangent.Statement.{statement}
 use Rattle.outcomes.proofs.put_tangent.Tie as tie
 
 pub put-tangent-spec : {M : Type 1} → statement M
-unfolding Outcomes.ofTangent
+unfolding Outcomes.ofTangent Galilean.tangent Outcomes.ofCheck
 put-tangent-spec =
     tie.close
     (tie.spec

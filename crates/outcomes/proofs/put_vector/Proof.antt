@@ -1,11 +1,12 @@
 -- `outcomes::put_vector` meets its contract. Assumes nothing.
 use borrow.Author.Needs.{needs}
+use Rattle.so3_answers.specs.Outcomes as Rotations
 use Rattle.outcomes.specs.Outcomes as Outcomes
 use Rattle.outcomes.proofs.put_vector.Statement.{statement}
 use Rattle.outcomes.proofs.put_vector.Tie as tie
 
 pub put-vector-spec : {M : Type 1} → statement M
-unfolding Outcomes.ofVector
+unfolding Outcomes.ofVector Rotations.vector Outcomes.ofCheck
 put-vector-spec =
     tie.close
     (tie.spec

@@ -1,15 +1,15 @@
 -- `outcomes::put_word` meets its contract: the header, then the word. Assumes nothing.
+use mathlib.Core.Path.{ap, _∙_}
+use lib.Seq.{sets}
 use borrow.Author.Needs.{needs}
-use Rattle.outcomes.specs.Outcomes as Outcomes
-use Rattle.outcomes.proofs.Stores.{word-count, after-header}
+use Rattle.outcomes.proofs.Stores.{word-count, word-outcome, after-header}
 use Rattle.outcomes.proofs.put_word.Statement.{statement}
 use Rattle.outcomes.proofs.put_word.Tie as tie
 
 returns : tie.Need-returns
-unfolding Outcomes.ofWord
 returns c = record {
   returned = word-count _;
-  stored = rw (c .put-word .ensures, c .before .before .put-header .ensures) (after-header _ _ _ _);
+  stored = rw (c .put-word .ensures, c .before .before .put-header .ensures) (after-header _ _ _ _ ∙ ap (sets _ 0) (word-outcome _));
   fits = search needs;
 }
 

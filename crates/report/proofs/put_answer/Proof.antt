@@ -1,8 +1,7 @@
 -- `report::put_answer` meets its contract. Assumes nothing.
 use mathlib.Core.Path.{refl}
 use borrow.Author.Needs.{needs}
-use Rattle.report.specs.Text.{text}
-use Rattle.report.proofs.Printed.{answer-length, number-below}
+use Rattle.report.proofs.Printed.{answer-length, number-below, done-text, refused-text}
 use Rattle.report.proofs.put_answer.Statement.{statement}
 use Rattle.report.proofs.put_answer.Tie as tie
 
@@ -12,19 +11,17 @@ put-refusal-requires c κs =
     search needs
 
 returns : tie.Need-returns
-unfolding text
 returns c =
     let at-lines = c .before .before in
     let at-answer = at-lines .before .before .before .before in
     rw (at-answer .answer .given .1)
-    (answer-length _, rw (at-lines .put-lines .ensures, at-lines .before .coeffs .ensures) refl)
+    (answer-length _, rw (at-lines .put-lines .ensures, at-lines .before .coeffs .ensures, done-text _) refl)
 
 returns-2 : tie.Need-returns-2
-unfolding text
 returns-2 c =
     let at-refusal = c .before .before in
     let at-answer = at-refusal .before .before .before .before in
-    rw (at-answer .answer2 .given .1, ← at-refusal .before .number .ensures) (at-refusal .put-refusal .ensures)
+    rw (at-answer .answer2 .given .1, refused-text _, ← at-refusal .before .number .ensures) (at-refusal .put-refusal .ensures)
 
 pub put-answer-spec : {M : Type 1} → statement M
 put-answer-spec =

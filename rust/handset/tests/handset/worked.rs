@@ -1,5 +1,6 @@
 //! Worked examples, compared bit for bit.
 use crate::{bytes, element, A, B};
+use handset::entries::compose_in_place;
 use handset::{chain, compose, inverse, Element, Refusal, CHAIN_MOST, ELEMENT_BYTES};
 
 const IDENTITY: [f64; 11] = [0.0, 0.0, 0.0, 1.0, 0.0, 0.0, 0.0, 0.0, 0.0, 0.0, 0.0];
@@ -31,6 +32,23 @@ fn a_then_b() {
     same(compose(&element(A), &element(B)), values);
     let steps = [element(A).to_bytes(), element(B).to_bytes()];
     same(chain(steps.as_flattened()), values);
+}
+
+#[test]
+fn a_then_b_in_place() {
+    let mut held = element(A).to_bytes();
+    assert_eq!(compose_in_place(&mut held, &element(B).to_bytes()), 0);
+    let values: [f64; 11] = [10.0, 3.0, 4.0, 1.0, 0.0, 0.0, 0.0, 4.0, 2.0, 0.0, 2.5];
+    assert_eq!(held, bytes(values.map(f64::to_bits)));
+    let before = held;
+    let bad = Element {
+        time: f64::NAN,
+        ..element(B)
+    };
+    assert_eq!(compose_in_place(&mut held, &bad.to_bytes()), 2);
+    assert_eq!(compose_in_place(&mut held, &bad.to_bytes()[1..]), 1);
+    assert_eq!(compose_in_place(&mut held[1..], &bad.to_bytes()), 1);
+    assert_eq!(held, before);
 }
 
 #[test]

@@ -1,7 +1,7 @@
 //! entries [--seed N] [--count N]
 //!
-//! Calls sgal3_compose, sgal3_inverse and sgal3_chain of the static library with random byte blocks and compares each
-//! number and all 88 bytes of the output with the reference's; after a refusal the output has to be as it was, and the
+//! Calls sgal3_compose, also in place, sgal3_inverse and sgal3_chain of the static library with random byte blocks and compares
+//! each number and all 88 bytes of the output with the reference's; after a refusal the output has to be as it was, and the
 //! inputs always. Every buffer is an allocation of its own of just the length that the call is told, so that under
 //! valgrind no byte beside it can be touched unseen.
 //! Exit status: 0, no difference; 1, a difference, or an outcome that was never met; 2, a wrong command.
@@ -177,6 +177,17 @@ fn compare(entry: &Entry, expected: &Outcome) -> Result<(), String> {
     }
     if first != entry.first || second != entry.second {
         return Err("an input was changed".into());
+    }
+    // in place the same, where the output has its length
+    if entry.number == COMPOSE && out.len() == ELEMENT_BYTES {
+        let mut held = first;
+        let in_place = entries::compose_in_place(&mut held, &second);
+        let left = if number == 0 { &out } else { &entry.first };
+        if in_place != number || held != *left || second != entry.second {
+            return Err(format!(
+                "in place the entry answers {in_place} and leaves {held:02X?}"
+            ));
+        }
     }
     let bytes: Vec<u8> = expected
         .values
