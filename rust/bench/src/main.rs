@@ -12,8 +12,8 @@ use plain::{Plain, Source};
 use std::hint::black_box;
 use std::time::Instant;
 
-type OfTwo = unsafe extern "C" fn(*const u8, usize, *const u8, usize, *mut u8, usize) -> u32;
-type OfOne = unsafe extern "C" fn(*const u8, usize, *mut u8, usize) -> u32;
+type OfTwo = unsafe extern "C" fn(*const u8, u64, *const u8, u64, *mut u8, u64) -> u32;
+type OfOne = unsafe extern "C" fn(*const u8, u64, *mut u8, u64) -> u32;
 type Block = [u8; ELEMENT_BYTES];
 
 /// The three calls of one candidate.
@@ -49,11 +49,11 @@ impl Entries {
         unsafe {
             f(
                 left.as_ptr(),
-                left.len(),
+                left.len() as u64,
                 right.as_ptr(),
-                right.len(),
+                right.len() as u64,
                 out.as_mut_ptr(),
-                out.len(),
+                out.len() as u64,
             )
         }
     }
@@ -61,13 +61,27 @@ impl Entries {
     fn inverse(&self, block: &[u8], out: &mut Block) -> u32 {
         let f = self.inverse;
         // SAFETY: each pointer and length are those of one slice, and `out` is borrowed mutably, so it doesn't overlap `block`.
-        unsafe { f(block.as_ptr(), block.len(), out.as_mut_ptr(), out.len()) }
+        unsafe {
+            f(
+                block.as_ptr(),
+                block.len() as u64,
+                out.as_mut_ptr(),
+                out.len() as u64,
+            )
+        }
     }
 
     fn chain(&self, blocks: &[u8], out: &mut Block) -> u32 {
         let f = self.chain;
         // SAFETY: each pointer and length are those of one slice, and `out` is borrowed mutably, so it doesn't overlap `blocks`.
-        unsafe { f(blocks.as_ptr(), blocks.len(), out.as_mut_ptr(), out.len()) }
+        unsafe {
+            f(
+                blocks.as_ptr(),
+                blocks.len() as u64,
+                out.as_mut_ptr(),
+                out.len() as u64,
+            )
+        }
     }
 }
 
@@ -336,7 +350,9 @@ fn chain_table(classes: &[Class]) {
 
 /// The table of runs in which each call waits for the last.
 fn run_table(classes: &[Class]) {
-    println!("| quaternions | by turns, ns | copied back, ns | in place, ns | in place / by turns |");
+    println!(
+        "| quaternions | by turns, ns | copied back, ns | in place, ns | in place / by turns |"
+    );
     println!("|---|---:|---:|---:|---:|");
     for (name, steps) in classes {
         let [turns, copied, in_place] = runs::times(steps);

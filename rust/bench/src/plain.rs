@@ -284,18 +284,18 @@ fn finish(answer: Answer, out: &mut [u8]) -> u32 {
 #[inline(never)]
 pub unsafe extern "C" fn compose<W: Way>(
     left: *const u8,
-    left_len: usize,
+    left_len: u64,
     right: *const u8,
-    right_len: usize,
+    right_len: u64,
     out: *mut u8,
-    out_len: usize,
+    out_len: u64,
 ) -> u32 {
     // SAFETY: the caller's promise.
     let (left, right, out) = unsafe {
         (
-            std::slice::from_raw_parts(left, left_len),
-            std::slice::from_raw_parts(right, right_len),
-            std::slice::from_raw_parts_mut(out, out_len),
+            std::slice::from_raw_parts(left, left_len as usize),
+            std::slice::from_raw_parts(right, right_len as usize),
+            std::slice::from_raw_parts_mut(out, out_len as usize),
         )
     };
     if out.len() != ELEMENT_BYTES {
@@ -310,15 +310,15 @@ pub unsafe extern "C" fn compose<W: Way>(
 #[inline(never)]
 pub unsafe extern "C" fn inverse<W: Way>(
     block: *const u8,
-    block_len: usize,
+    block_len: u64,
     out: *mut u8,
-    out_len: usize,
+    out_len: u64,
 ) -> u32 {
     // SAFETY: the caller's promise.
     let (block, out) = unsafe {
         (
-            std::slice::from_raw_parts(block, block_len),
-            std::slice::from_raw_parts_mut(out, out_len),
+            std::slice::from_raw_parts(block, block_len as usize),
+            std::slice::from_raw_parts_mut(out, out_len as usize),
         )
     };
     if out.len() != ELEMENT_BYTES {
@@ -336,15 +336,15 @@ pub unsafe extern "C" fn inverse<W: Way>(
 #[inline(never)]
 pub unsafe extern "C" fn chain<W: Way>(
     blocks: *const u8,
-    blocks_len: usize,
+    blocks_len: u64,
     out: *mut u8,
-    out_len: usize,
+    out_len: u64,
 ) -> u32 {
     // SAFETY: the caller's promise.
     let (blocks, out) = unsafe {
         (
-            std::slice::from_raw_parts(blocks, blocks_len),
-            std::slice::from_raw_parts_mut(out, out_len),
+            std::slice::from_raw_parts(blocks, blocks_len as usize),
+            std::slice::from_raw_parts_mut(out, out_len as usize),
         )
     };
     if out.len() != ELEMENT_BYTES {

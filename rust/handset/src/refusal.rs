@@ -5,7 +5,8 @@ use core::fmt;
 #[derive(Clone, Copy, Debug, PartialEq, Eq, Hash)]
 #[non_exhaustive]
 pub enum Refusal {
-    /// 1: a chain is not whole blocks, or has more than [`CHAIN_MOST`](crate::CHAIN_MOST).
+    /// 1: a block is not [`ELEMENT_BYTES`](crate::ELEMENT_BYTES) bytes, or a chain is not whole blocks or has more than
+    /// [`CHAIN_MOST`](crate::CHAIN_MOST).
     Length,
     /// 2: a value is a NaN or infinite, or the computed norm of a quaternion is.
     NotFinite,

@@ -1,4 +1,6 @@
-//! The crate and the C entries under it: worked examples, refusals, and the story of set 17.
+//! The crate and the C entries under it: worked examples, refusals, what is held, and the story of set 17.
+mod header;
+mod held;
 mod refusals;
 mod search;
 mod worked;

@@ -1,7 +1,9 @@
 //! Each refusal, by the C entries themselves: the number, and an output that is as it was.
 use crate::{bytes, element, A, B};
 use handset::entries;
-use handset::{chain, compose, inverse, Element, Refusal, CHAIN_MOST, ELEMENT_BYTES};
+use handset::{
+    chain, chain_bytes, compose, inverse, Element, Held, Refusal, CHAIN_MOST, ELEMENT_BYTES,
+};
 
 const FILL: u8 = 0xa5;
 
@@ -29,6 +31,20 @@ fn chain_into(len: usize, blocks: &[u8]) -> u32 {
     refused(len, |out| entries::chain(blocks, out))
 }
 
+/// A step is refused as `number`, and what is held stays.
+fn step_refused(mut held: Held, step: &[u8], number: u32) {
+    let before = *held.as_bytes();
+    let refusal = held.step_bytes(step).expect_err("a refusal");
+    assert_eq!(refusal.number(), number);
+    assert_eq!(*held.as_bytes(), before);
+}
+
+/// A chain of elements is refused as `number`.
+fn chain_refused(steps: &[Element], number: u32) {
+    let refusal = chain(steps).expect_err("a refusal");
+    assert_eq!(refusal.number(), number);
+}
+
 /// A block is refused as `number` wherever it stands, beside a good one.
 fn refused_everywhere(block: &[u8], number: u32) {
     let good = element(A).to_bytes();
@@ -39,6 +55,13 @@ fn refused_everywhere(block: &[u8], number: u32) {
         assert_eq!(chain_into(ELEMENT_BYTES, &blocks.concat()), number);
     }
     assert_eq!(chain_into(ELEMENT_BYTES, block), number);
+    step_refused(Held::from(element(A)), block, number);
+    if let Ok(bad) = Element::try_from(block) {
+        step_refused(Held::from(bad), &good, number);
+        chain_refused(&[bad], number);
+        chain_refused(&[bad, element(A)], number);
+        chain_refused(&[element(A), bad], number);
+    }
 }
 
 fn with(place: usize, pattern: u64) -> [u8; ELEMENT_BYTES] {
@@ -76,11 +99,19 @@ fn length_of_a_chain() {
     let step = Element::IDENTITY.to_bytes();
     let steps = vec![step; CHAIN_MOST + 1].concat();
     assert_eq!(chain_into(ELEMENT_BYTES, &steps), 1);
-    assert_eq!(chain(&steps), Err(Refusal::Length));
+    assert_eq!(chain_bytes(&steps), Err(Refusal::Length));
     let most = CHAIN_MOST * ELEMENT_BYTES;
     assert_eq!(chain_into(ELEMENT_BYTES, &steps[..most + 1]), 1);
     assert_eq!(chain_into(ELEMENT_BYTES, &steps[..most - 1]), 1);
-    assert_eq!(chain(&steps[..most]), Ok(Element::IDENTITY));
+    assert_eq!(chain_bytes(&steps[..most]), Ok(Element::IDENTITY));
+
+    let mut steps = vec![Element::IDENTITY; CHAIN_MOST + 1];
+    assert_eq!(chain(&steps), Err(Refusal::Length));
+    assert_eq!(chain(&steps[1..]), Ok(Element::IDENTITY));
+    // The length comes first.
+    steps[0].time = f64::NAN;
+    assert_eq!(chain(&steps), Err(Refusal::Length));
+    assert_eq!(chain(&steps[..CHAIN_MOST]), Err(Refusal::NotFinite));
 }
 
 #[test]
@@ -133,7 +164,8 @@ fn norm() {
         };
         assert!(compose(&accepted, &accepted).is_ok());
         assert!(inverse(&accepted).is_ok());
-        assert!(chain(&accepted.to_bytes()).is_ok());
+        assert!(chain(&[accepted]).is_ok());
+        assert!(Held::from(accepted).step(&accepted).is_ok());
     }
 }
 
@@ -156,6 +188,7 @@ fn overflow() {
         assert_eq!(compose_into(ELEMENT_BYTES, &block, &block), 5);
         assert_eq!(chain_into(ELEMENT_BYTES, &[block, block].concat()), 5);
         assert_eq!(compose(&step, &step), Err(Refusal::Overflow));
+        step_refused(Held::from(step), &block, 5);
     }
     let fast = Element {
         velocity: [f64::MAX, 0.0, 0.0],
@@ -167,8 +200,8 @@ fn overflow() {
     // A partial element counts, though the exact sum of all times is finite.
     let steps = [late, late, early].map(|step| step.to_bytes());
     assert_eq!(chain_into(ELEMENT_BYTES, &steps.concat()), 5);
-    let steps = [late, early, late].map(|step| step.to_bytes());
-    assert_eq!(chain(steps.as_flattened()), Ok(late));
+    assert_eq!(chain(&[late, late, early]), Err(Refusal::Overflow));
+    assert_eq!(chain(&[late, early, late]), Ok(late));
 }
 
 /// A smaller number comes first, wherever its block stands.
@@ -190,6 +223,9 @@ fn order() {
     assert_eq!(compose_into(87, &nan, &double), 1);
     assert_eq!(inverse_into(ELEMENT_BYTES, &nan[8..]), 1);
     assert_eq!(inverse_into(87, &nan), 1);
+    step_refused(Held::from(Element::from_bytes(&double)), &nan, 2);
+    step_refused(Held::from(Element::from_bytes(&nan)), &double, 2);
+    step_refused(Held::from(Element::from_bytes(&nan)), &double[1..], 1);
     let both = Element {
         time: f64::NAN,
         rotation: [2.0, 0.0, 0.0, 0.0],
@@ -210,6 +246,8 @@ fn order() {
         longer.push(0);
         assert_eq!(chain_into(ELEMENT_BYTES, &longer), 1);
         assert_eq!(chain_into(87, &blocks.concat()), 1);
+        let steps: Vec<Element> = blocks.iter().map(Element::from_bytes).collect();
+        chain_refused(&steps, number);
     }
 }
 
@@ -227,8 +265,12 @@ fn names() {
     assert_eq!(compose(&element(A), &double), Err(Refusal::NotUnit));
     assert_eq!(inverse(&nan), Err(Refusal::NotFinite));
     assert_eq!(inverse(&double), Err(Refusal::NotUnit));
-    assert_eq!(chain(&nan.to_bytes()), Err(Refusal::NotFinite));
-    assert_eq!(chain(&[0]), Err(Refusal::Length));
+    assert_eq!(chain(&[nan]), Err(Refusal::NotFinite));
+    assert_eq!(chain_bytes(&nan.to_bytes()), Err(Refusal::NotFinite));
+    assert_eq!(chain_bytes(&[0]), Err(Refusal::Length));
+    assert_eq!(Held::new().step(&nan), Err(Refusal::NotFinite));
+    assert_eq!(Held::new().step(&double), Err(Refusal::NotUnit));
+    assert_eq!(Held::new().step_bytes(&[0]), Err(Refusal::Length));
     assert_eq!(Refusal::NotUnit.number(), 3);
     assert_eq!(
         Refusal::NotUnit.to_string(),

@@ -1,25 +1,6 @@
 //! Two sets follow the same search. The composed time opens the listening slot, so it has to be the same in both.
 use crate::element;
-use handset::{chain, compose, Element, Refusal};
-
-/// A radio with the motion since its last fix.
-struct Set {
-    held: Element,
-}
-
-impl Set {
-    fn new() -> Set {
-        Set {
-            held: Element::IDENTITY,
-        }
-    }
-
-    /// Takes a step; a refused one leaves what is held.
-    fn take(&mut self, step: &Element) -> Result<(), Refusal> {
-        self.held = compose(&self.held, step)?;
-        Ok(())
-    }
-}
+use handset::{chain, Element, Held, Refusal};
 
 /// The steps of the search: turns and times of which no sum is exact.
 fn steps() -> Vec<Element> {
@@ -53,30 +34,29 @@ fn steps() -> Vec<Element> {
 #[test]
 fn set_17_keeps_its_slot() {
     let steps = steps();
-    let (mut set_17, mut set_12) = (Set::new(), Set::new());
+    let (mut set_17, mut set_12) = (Held::new(), Held::new());
     for (i, step) in steps.iter().enumerate() {
-        assert_eq!(set_12.take(step), Ok(()));
+        assert_eq!(set_12.step(step), Ok(()));
+        // Set 17 alone gets a bad step, in the middle of the search.
         if i == steps.len() / 2 {
-            let before = set_17.held.to_bytes();
+            let before = *set_17.as_bytes();
             let bad = Element {
                 time: f64::NAN,
                 ..*step
             };
-            let refusal = set_17.take(&bad).expect_err("a NaN is no time");
+            let refusal = set_17.step(&bad).expect_err("a NaN is no time");
             assert_eq!(refusal, Refusal::NotFinite);
             assert_eq!(refusal.number(), 2);
-            assert_eq!(set_17.held.to_bytes(), before);
+            assert_eq!(*set_17.as_bytes(), before);
         }
-        assert_eq!(set_17.take(step), Ok(()));
+        assert_eq!(set_17.step(step), Ok(()));
     }
-    assert_eq!(set_17.held.time.to_bits(), set_12.held.time.to_bits());
-    assert_eq!(set_17.held.to_bytes(), set_12.held.to_bytes());
-    assert_ne!(set_17.held.to_bytes(), Element::IDENTITY.to_bytes());
+    assert_eq!(set_17.time().to_bits(), set_12.time().to_bits());
+    assert_eq!(set_17, set_12);
+    assert_ne!(set_17, Held::new());
 
     // The times were added one after the other, and the chain of the steps is the same element.
     let time = steps.iter().fold(0.0, |sum, step| sum + step.time);
-    assert_eq!(set_17.held.time.to_bits(), time.to_bits());
-    let blocks: Vec<u8> = steps.iter().flat_map(Element::to_bytes).collect();
-    let whole = chain(&blocks).expect("an answer");
-    assert_eq!(whole.to_bytes(), set_17.held.to_bytes());
+    assert_eq!(set_17.time().to_bits(), time.to_bits());
+    assert_eq!(chain(&steps).map(Held::from), Ok(set_17));
 }

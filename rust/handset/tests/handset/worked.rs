@@ -1,7 +1,7 @@
 //! Worked examples, compared bit for bit.
 use crate::{bytes, element, A, B};
 use handset::entries::compose_in_place;
-use handset::{chain, compose, inverse, Element, Refusal, CHAIN_MOST, ELEMENT_BYTES};
+use handset::{chain, chain_bytes, compose, inverse, Element, Refusal, CHAIN_MOST, ELEMENT_BYTES};
 
 const IDENTITY: [f64; 11] = [0.0, 0.0, 0.0, 1.0, 0.0, 0.0, 0.0, 0.0, 0.0, 0.0, 0.0];
 
@@ -30,8 +30,10 @@ fn turned(quaternion: [f64; 4], translation: [f64; 3]) -> [f64; 3] {
 fn a_then_b() {
     let values = [10.0, 3.0, 4.0, 1.0, 0.0, 0.0, 0.0, 4.0, 2.0, 0.0, 2.5];
     same(compose(&element(A), &element(B)), values);
-    let steps = [element(A).to_bytes(), element(B).to_bytes()];
-    same(chain(steps.as_flattened()), values);
+    let steps = [A, B].map(element);
+    same(chain(&steps), values);
+    let blocks = steps.map(|step| step.to_bytes());
+    same(chain_bytes(blocks.as_flattened()), values);
 }
 
 #[test]
@@ -74,6 +76,7 @@ fn inverse_of_the_identity_has_negative_zeros() {
 #[test]
 fn empty_chain_is_the_identity() {
     same(chain(&[]), IDENTITY);
+    same(chain_bytes(&[]), IDENTITY);
     same(Ok(Element::IDENTITY), IDENTITY);
 }
 
@@ -127,12 +130,13 @@ fn longest_chain() {
         time: 0.125,
         ..Element::IDENTITY
     };
-    let steps = vec![step.to_bytes(); CHAIN_MOST];
     let total = Element {
         time: 512.0,
         ..Element::IDENTITY
     };
-    assert_eq!(chain(steps.as_flattened()), Ok(total));
+    assert_eq!(chain(&vec![step; CHAIN_MOST]), Ok(total));
+    let blocks = vec![step.to_bytes(); CHAIN_MOST];
+    assert_eq!(chain_bytes(blocks.as_flattened()), Ok(total));
 }
 
 #[test]
@@ -150,4 +154,17 @@ fn bytes_and_back() {
     assert_eq!(element.velocity[0].to_bits(), patterns[7]);
     assert_eq!(element.time.to_bits(), patterns[10]);
     assert_eq!(block.len(), ELEMENT_BYTES);
+}
+
+/// Nothing but the length is looked at.
+#[test]
+fn from_a_slice_of_bytes() {
+    let long = [0xff; ELEMENT_BYTES + 1];
+    for len in [0, 1, 87, 89] {
+        assert_eq!(Element::try_from(&long[..len]), Err(Refusal::Length));
+    }
+    for block in [[0xff; ELEMENT_BYTES], element(A).to_bytes()] {
+        let read = Element::try_from(&block[..]).expect("an element");
+        assert_eq!(read.to_bytes(), block);
+    }
 }
