@@ -69,7 +69,7 @@ endif
 # A status other than 0 where nothing was printed or the chain is refused: the program itself has no status to give.
 run: toolchain-check
 	@[ -f "$$FILE" ] || { echo "make run: there is no file '$$FILE'; FILE=.. names a file of element blocks of 88 bytes."; exit 1; }
-	@[ -x target/bin/chain ] || echo "Proving the program chain and what it rests on, crate by crate: some three minutes the first time."
+	@[ -x target/bin/chain ] || echo "Proving the program chain and what it rests on, crate by crate: some two minutes the first time."
 	@$(call SHOWN,rt check chain)
 	@said=$$(target/bin/chain < "$$FILE"); printf '%s\n' "$$said"; case $$said in '' | refused*) exit 1 ;; esac
 

@@ -1,4 +1,4 @@
-// The lines of the scope's bench list that are not marked as proved, run: the number of what each call came to, 0 for an answer;
+// The lines of the scope's bench list that are not marked as proved, run: the number of each call's outcome, 0 for an answer;
 // of is_valid its answer as well, 1 for yes and 0 for no.
 use libc::STDOUT_FILENO;
 use sgal3_composition::Answer;

@@ -1,4 +1,4 @@
--- What a call came to, in the paper's terms: its number, what a refusal carries, and the values. Each type of answer has a definition of its outcome beside
+-- The outcome of a call, in the paper's terms: its number, what a refusal carries, and the values. Each type of answer has a definition of its outcome beside
 -- its other definitions, made with `outcome`. Definitions only.
 use Prim.Native.Nat.{ℕ}
 use mathlib.Core.Bool.{cond}

@@ -1,4 +1,4 @@
-// Answers requests from standard input, each a call and its values, with what the call came to. docs/TESTING.md has the format.
+// Answers requests from standard input, each a call and its values, with the call's outcome. docs/TESTING.md has the format.
 use libc::STDIN_FILENO;
 use libc::STDOUT_FILENO;
 ghost use mathlib.Core.Path.{_≡_};
@@ -62,7 +62,7 @@ fn values_end(got: usize, first: u64, second: u64) -> usize
     (first + second) as usize
 }
 
-// Reads requests and writes what they come to, until the input ends, or until it or the output is no good. A proved loop has to
+// Reads requests and writes their outcomes, until the input ends, or until it or the output is no good. A proved loop has to
 // end, so it counts its requests; no input has as many.
 fn main() {
     let mut left = 0x1000_0000_0000_0000u64;

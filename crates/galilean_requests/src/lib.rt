@@ -1,4 +1,4 @@
-// A request on the Galilean group answered: the calls 70 to 111 by their numbers, and what each came to as bytes. No bytes where
+// A request on the Galilean group answered: the calls 70 to 111 by their numbers, and the outcome of each as bytes. No bytes where
 // there is no such call.
 use checks::Check;
 ghost use Rattle.outcomes.specs.Outcomes as Outcomes;

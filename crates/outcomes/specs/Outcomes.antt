@@ -1,4 +1,4 @@
--- What a call came to, as bytes: the outcome of its answer, written down. Definitions only.
+-- The outcome of a call's answer, as bytes. Definitions only.
 use Prim.Native.Nat.{ℕ, _≤_}
 use mathlib.Core.Path.{_≡_}
 use mathlib.Core.Bool.{Bool, cond}

@@ -1,4 +1,4 @@
-// What a call came to, as bytes: little-endian words for the number, two figures, how many values follow, and their bits.
+// The outcome of a call, as bytes: little-endian words for the number, two figures, how many values follow, and their bits.
 use checks::Check;
 use checks::Refusal;
 use sgal3_answers::ActJacobianAnswer;

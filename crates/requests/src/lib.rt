@@ -1,4 +1,4 @@
-// A request answered: every public call by its number, on blocks of values, and what it came to as bytes. No bytes where there is
+// A request answered: every public call by its number, on blocks of values, and its outcome as bytes. No bytes where there is
 // no such call. docs/TESTING.md has the numbers.
 ghost use Rattle.outcomes.specs.Outcomes as Outcomes;
 ghost use Rattle.requests.specs.Requests as Requests;

@@ -1,4 +1,4 @@
-// A request on rotations answered: the calls 10 to 60 by their numbers, and what each came to as bytes. No bytes where there is no
+// A request on rotations answered: the calls 10 to 60 by their numbers, and the outcome of each as bytes. No bytes where there is no
 // such call.
 ghost use Rattle.outcomes.specs.Outcomes as Outcomes;
 ghost use Rattle.rotation_requests.specs.Requests as Requests;

@@ -50,7 +50,7 @@ unfolding checks
 blocks zero s = tt
 blocks (suc n) s = (block (take 11 s) tolerance, blocks n (drop 11 s))
 
--- ---- the chain is a fold over what its blocks come to
+-- ---- the chain is a fold over the answers of its blocks
 folded : Answer → List Answer → Answer
 folded held [] = held
 folded held (o ∷ os) = folded (composeAnswers held o) os

@@ -13,7 +13,7 @@ use Rattle.sgal3.specs.declared.Element.{Element}
 use Rattle.sgal3_composition.specs.declared.Answer.{Answer}
 use Rattle.sgal3_composition.specs.declared.Answer.the-variants.{Done, Refused}
 
--- what n blocks from the front of s come to, from left to right
+-- the answers of n blocks from the front of s, from left to right
 unfoldable pub checks : ℕ → List Float → List Answer
 checks zero s = []
 checks (suc n) s = checkElement (take 11 s) tolerance ∷ checks n (drop 11 s)

@@ -107,7 +107,7 @@ fn first_refusal(left: Answer, right: Answer) -> Answer
     Answer::Refused(a.earlier(b))
 }
 
-// Composes what two blocks, or a chain so far and a block, came to.
+// Composes the answers of two blocks, or of a chain so far and a block.
 pub fn compose_answers(left: Answer, right: Answer) -> Answer
     ensures { λ r. ⌜ r ≡ Calls.composeAnswers left right ⌝ }
 {

@@ -1,4 +1,4 @@
-// What the blocks of a Galilean call come to: an element's eleven values, a tangent's ten, a vector's three, or the refusal 1 to 3
+// What the check of a Galilean call's blocks gives: an element's eleven values, a tangent's ten, a vector's three, or the refusal 1 to 3
 // that is tried first.
 use checks::Check;
 use checks::Refusal;

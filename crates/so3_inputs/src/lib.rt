@@ -1,4 +1,4 @@
-// What the blocks of a call on SO(3) come to: a rotation's four values w, x, y, z, a tangent's or a vector's three, or the refusal
+// What the check of the blocks of a call on SO(3) gives: a rotation's four values w, x, y, z, a tangent's or a vector's three, or the refusal
 // 1 to 3 that is tried first.
 use checks::Check;
 use checks::Refusal;

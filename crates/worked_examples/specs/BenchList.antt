@@ -30,7 +30,7 @@ pub record Example : Type 0 where
   pub computed : List ℕ
   pub said : List ℕ
 
--- ---- what a call came to, as numbers: its number, what it carries, its values; patterns for f64, and 1 for yes
+-- ---- the outcome of a call, as numbers: its number, what it carries, its values; patterns for f64, and 1 for yes
 abbrev carried : Figures → List ℕ
 carried none = []
 carried (lengths expected actual) = expected ∷ actual ∷ []

@@ -111,7 +111,7 @@ pub fn chain_bytes(blocks: &[u8]) -> Result<Element, Refusal> {
     answer(|out| entries::chain(blocks, out))
 }
 
-/// What a call of an entry comes to, given the output that it may fill.
+/// What a call of an entry answers, given the output that it may fill.
 fn answer(call: impl FnOnce(&mut [u8]) -> u32) -> Result<Element, Refusal> {
     let mut out = [0; ELEMENT_BYTES];
     done(call(&mut out))?;

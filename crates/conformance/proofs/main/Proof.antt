@@ -1,4 +1,4 @@
--- `conformance::main` is safe and ends: the first block ends within the values that were read, what the call came to fits the bytes that it was put
+-- `conformance::main` is safe and ends: the first block ends within the values that were read, the call's outcome fits the bytes that it was put
 -- in, and the measure is the number of requests that it would still answer. Assumes nothing.
 use Prim.{Unit}
 use native.Mathlib.Omega.{arith}

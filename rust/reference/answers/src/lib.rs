@@ -16,7 +16,7 @@ use apex::{LieGroup, ManifoldError};
 use requests::refusals::{self, Refusal};
 use requests::{Call, Outcome, Request};
 
-/// What one request comes to.
+/// The outcome of one request.
 pub fn answer(request: &Request, outcome: &mut Outcome) {
     let call = request.call();
     let blocks = refusals::of_blocks(call, request);

@@ -139,7 +139,7 @@ static BY_NUMBER: LazyLock<Vec<Option<Function>>> = LazyLock::new(|| {
         .collect()
 });
 
-/// What each call comes to, by its name: x is the request. The Jacobians of SGal(3) that docs/src finds by central
+/// What each call answers, by its name: x is the request. The Jacobians of SGal(3) that docs/src finds by central
 /// differences aren't there.
 #[rustfmt::skip]
 const FUNCTIONS: &[(&str, Function)] = &[

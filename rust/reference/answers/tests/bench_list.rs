@@ -1,4 +1,4 @@
-//! The reference says what the scope's bench list says, and what the orders of operations come to.
+//! The reference says what the scope's bench list says, and what the orders of operations give.
 
 use answers::answer;
 use requests::bench_list::{accepted, limits, lines, orders, refused, request};
