@@ -3,7 +3,7 @@
 # make lib          the static library and its header, in target/lib; TARGET=.. for another processor (targets.mk lists them), in
 #                   target/lib/TARGET
 # make install      header, archive and pkg-config file, in PREFIX=.., /usr/local unless another is named; TARGET=.. as above
-# make try          the programs with no proof, on the interpreter and compiled three ways; TRIES=.. times on requests drawn at
+# make try          the programs with no proof, on the interpreter and compiled with checks; TRIES=.. times on requests drawn at
 #                   random, beside the Rust
 # make compare      every call, the C entries and the square root beside the Rust, on fresh random requests: SEED=..; for the
 #                   calls COUNT=.. or SECONDS=.., the entries and the root get a million; APEX_SRC=.. names the folder of the
@@ -20,7 +20,8 @@ COUNT = 10000000
 SECONDS =
 TRIES = 6
 SHELL = /bin/bash
-CARGO = cargo --quiet --offline
+# Without the flags of make: cargo would look for a job server that is not handed on to it.
+CARGO = env -u MAKEFLAGS -u MFLAGS cargo --quiet --offline
 FLOAT = --target-dir target/cargo --manifest-path rust/float/Cargo.toml
 VECTORS = crates/sqrt_vectors/data/vectors
 CASES = $(CARGO) run --release --target-dir target/cargo --manifest-path rust/cases/Cargo.toml --
@@ -30,24 +31,17 @@ APEX_SRC ?= ../shared/docs/src/crates/apex-manifolds/src
 export APEX_SRC := $(abspath $(APEX_SRC))
 WARNINGS = -Wall -Wextra -Werror -pedantic
 
-# A check copies all that its crate depends on into a temporary folder: in memory, where there is room, that takes a tenth of the time.
-# Programs are run from there too.
-IN_MEMORY = [ -w /dev/shm ] && df -Pk /dev/shm | awk 'NR == 2 { exit $$4 < 2000000 }' && ! grep -q ' /dev/shm .*noexec' /proc/mounts
-ifndef TMPDIR
-export TMPDIR := $(shell $(IN_MEMORY) && echo /dev/shm || echo /tmp)
-endif
-
-# rt starts so many checks, waits for all of them and starts the next: with more of them than processors, these idle less.
-RT_JOBS ?= 8
-export RT_JOBS
+# rt ci leaves what it has proved in the crates' out/: the programs, and the libraries, if none lay there before. PROVED says which of them are
+# those of this very run, so that nothing is proved twice.
+PROVED =
 
 # A part that wants a tool which is missing says so, and fails in CI.
 WITHOUT = { echo "NOT RUN: $@: there is no $(1) here"; [ "$$CI" != true ]; }
-# Of what rt prints the crates as they are proved are shown, and all of it where it fails.
-SHOWN = mkdir -p target && set -o pipefail && { flock target/lock $(1) 2>&1 | tee target/$@.log | \
-	sed -u -n 's/^rt: \(.* proved ([0-9]* s)\)$$/\1/p'; } || { cat target/$@.log; exit 1; }
-# What rt prints is shown only where it fails. Two of its checks at once would take each other's unfinished files.
-QUIETLY = mkdir -p target && flock target/lock $(1) > target/$@.log 2>&1 || { cat target/$@.log; exit 1; }
+# Of what rt prints the crates that it proves are shown, and all of it where it fails.
+SHOWN = mkdir -p target && set -o pipefail && { $(1) 2>&1 | tee target/$@.log | \
+	sed -u -n 's/^rt: chose --jobs [0-9]* for \(.*\)$$/proving \1/p'; } || { cat target/$@.log; exit 1; }
+# What is printed is shown only where it fails.
+QUIETLY = mkdir -p target && $(1) > target/$@.log 2>&1 || { cat target/$@.log; exit 1; }
 
 # What cargo is needed for: rustc links with cc.
 WITH_CARGO = if ! command -v cargo > /dev/null; then $(call WITHOUT,cargo); \
@@ -58,7 +52,7 @@ WITH_SOURCE = if ! [ -d "$$APEX_SRC" ]; then $(call WITHOUT,Rust source (APEX_SR
 # Two parts at a time where both are only to pass or fail, and one after the other where times are measured.
 TWO_AT_A_TIME = $(MAKE) --no-print-directory -j2 --output-sync=target IN_ORDER=
 
-.PHONY: run test test-tools test-sources test-built try toolchain-check format-check readme-check test-rust test-c test-install install install-files \
+.PHONY: run test test-tools test-sources test-built try try-requests toolchain-check readme-check test-rust test-c test-install install install-files \
 	vectors-check cases-check sample-check test-reference compare compare-sqrt compare-calls compare-entries valgrind-entries conformance bench bench-sqrt \
 	bench-handset sgal3-lib vectors cases sample float-lib
 IN_ORDER = yes
@@ -69,17 +63,19 @@ endif
 # A status other than 0 where nothing was printed or the chain is refused: the program itself has no status to give.
 run: toolchain-check
 	@[ -f "$$FILE" ] || { echo "make run: there is no file '$$FILE'; FILE=.. names a file of element blocks of 88 bytes."; exit 1; }
-	@[ -x target/bin/chain ] || echo "Proving the program chain and what it rests on, crate by crate: some two minutes the first time."
-	@$(call SHOWN,rt check chain)
-	@said=$$(target/bin/chain < "$$FILE"); printf '%s\n' "$$said"; case $$said in '' | refused*) exit 1 ;; esac
+	@[ -x crates/chain/out/chain ] || echo "Proving the program chain and what it rests on, crate by crate: some minutes the first time."
+	@$(call SHOWN,env -C crates/chain rt run < /dev/null)
+	@said=$$(crates/chain/out/chain < "$$FILE"); printf '%s\n' "$$said"; case $$said in '' | refused*) exit 1 ;; esac
 
-# What wants a program or a library that is proved comes after rt ci: so each is proved once, in this very run. Its verdict
-# is printed again as the last line, if the rest passes too.
-test: toolchain-check test-tools format-check
+# What wants a program or a library that is proved comes after rt ci: so each is proved once, in this very run. A must-fail edit that can't be
+# applied or read says nothing of a contract, so it fails too. The verdict is printed again as the last line, if the rest passes too.
+test: toolchain-check test-tools
 	@$(TWO_AT_A_TIME) test-sources
-	@exec 3>&1; verdict=$$(set -o pipefail; rt ci | while IFS= read -r line; do printf '%s\n' "$$line" >&3; \
-	    printf '%s\n' "$$line"; done | tail -n 1) && \
-	$(TWO_AT_A_TIME) test-built COUNT=5000000 && printf '%s\n' "$$verdict"
+	@mkdir -p target && set -o pipefail && libraries=libraries; \
+	for folder in .git/rt-aside crates/*/out/rlib; do [ ! -e "$$folder" ] || libraries=; done; \
+	rt ci | tee target/rt-ci.log && \
+	if grep -q '^rt: ok.*, [0-9]* bad' target/rt-ci.log; then echo "FAILED: bad must-fail edits, as told above"; exit 1; fi && \
+	$(TWO_AT_A_TIME) test-built COUNT=5000000 PROVED="programs $$libraries" && tail -n 1 target/rt-ci.log
 
 test-sources: readme-check try vectors-check cases-check sample-check test-reference
 test-built: valgrind-entries compare test-rust test-c test-install test-targets
@@ -97,9 +93,6 @@ toolchain-check:
 	@have=$$(rt version) && want=$$(cat toolchain) && [ "$$have" = "$$want" ] || { \
 	    echo "The file 'toolchain' names '$$want', and rt version says '$$have': use that one, or run make test with this one and name it there."; \
 	    exit 1; }
-
-format-check:
-	rt fmt --check
 
 include targets.mk
 
@@ -154,8 +147,8 @@ vectors-check:
 # Neither the sources nor the proofs of the two programs are the generator's.
 cases-check:
 	@$(call WITH_CARGO,rm -rf target/cases && $(CASES) target/cases && \
-	    diff -r -x src -x proofs target/cases/chain crates/chain && \
-	    diff -r -x src -x proofs target/cases/chain_cases crates/chain_cases)
+	    diff -r -x src -x proofs -x out target/cases/chain crates/chain && \
+	    diff -r -x src -x proofs -x out target/cases/chain_cases crates/chain_cases)
 
 sample-check:
 	@$(call WITH_SOURCE,mkdir -p target && $(CARGO) run $(REFERENCE) --bin sample -- target/sample-requests target/sample-answers \
@@ -165,27 +158,29 @@ sample-check:
 test-reference:
 	@$(call WITH_SOURCE,$(CARGO) test $(REFERENCE) --workspace --exclude entries)
 
-# A mistake in the code shows here before any proof is checked. What conformance is asked stands in its folder, so it runs in a
-# copy of the crates; the interpreter ends a run after ten million steps, and 800 requests stay well below.
+# A mistake in the code shows here before any proof is checked. The interpreter reads no arguments, and ends a run after 20 million steps: 800
+# requests stay well below.
 TRIED_PROGRAMS = $(addprefix try-,chain chain_cases bench_lines sqrt_vectors)
-TRIED_SEEDS = $(addprefix try-requests-,$(shell seq $(SEED) $$(($(SEED) + $(TRIES) - 1))))
-.PHONY: $(TRIED_PROGRAMS) $(TRIED_SEEDS)
-try: $(TRIED_SEEDS) $(TRIED_PROGRAMS)
+.PHONY: $(TRIED_PROGRAMS)
+try: try-requests $(TRIED_PROGRAMS)
 
+TRIED = $(CURDIR)/target/try
 $(TRIED_PROGRAMS): try-%:
-	@rt try $*
+	@mkdir -p $(TRIED) && cd crates/$* && rt try $$([ ! -d data ] || ls data | sed 's/.*/--data &=data\/&/') -- $$(cat args 2> /dev/null) \
+	    < $$(ls stdin 2> /dev/null || echo /dev/null) > $(TRIED)/$* 2> $(TRIED)/$*.log && cmp $(TRIED)/$* stdout && \
+	    echo "$*: $$(tail -n 1 $(TRIED)/$*.log)" || { cat $(TRIED)/$*.log; exit 1; }
 
-TRIED = target/try/$*
-$(TRIED_SEEDS): try-requests-%:
-	@$(call WITH_SOURCE,rm -rf $(TRIED) && mkdir -p $(TRIED) && cp -r crates crates.txt $(TRIED)/ && \
-	    $(CARGO) run $(REFERENCE) --bin draw -- $(TRIED)/crates/conformance/stdin $(TRIED)/crates/conformance/stdout $* 800 && \
-	    echo "seed $*: 800 requests" && (cd $(TRIED) && rt try conformance) && rm -rf $(TRIED))
+try-requests:
+	@$(call WITH_SOURCE,rm -rf $(TRIED)/requests && mkdir -p $(TRIED)/requests && \
+	    for seed in $$(seq $(SEED) $$(($(SEED) + $(TRIES) - 1))); do \
+	        $(CARGO) run $(REFERENCE) --bin draw -- $(TRIED)/requests/$$seed $(TRIED)/requests/$$seed.stdout $$seed 800 || exit 1; done && \
+	    echo "conformance: 800 requests for each of the seeds" && cd crates/conformance && rt try --cases $(TRIED)/requests)
 
-float-lib:
-	@$(call QUIETLY,rt staticlib float_export)
+float-lib: toolchain-check
+	@$(call STATIC_LIBRARY,float_export)
 
-conformance:
-	@$(call QUIETLY,rt check conformance)
+conformance: toolchain-check
+	@$(if $(filter programs,$(PROVED)),,$(call SHOWN,env -C crates/conformance rt run < /dev/null))
 
 compare: compare-sqrt compare-entries compare-calls
 
@@ -193,7 +188,7 @@ compare-sqrt: float-lib
 	@$(call WITH_CARGO,$(CARGO) run --release $(FLOAT) --bin sqrt_compare -- --seed $(SEED) --count 1000000)
 
 compare-calls: conformance
-	@$(call WITH_SOURCE,$(CARGO) run $(REFERENCE) --bin compare -- target/bin/conformance --seed $(SEED) \
+	@$(call WITH_SOURCE,$(CARGO) run $(REFERENCE) --bin compare -- crates/conformance/out/conformance --seed $(SEED) \
 	    $(if $(SECONDS),--seconds $(SECONDS),--count $(COUNT)))
 
 compare-entries: lib
@@ -213,9 +208,8 @@ bench-sqrt: float-lib
 bench-handset: lib sgal3-lib
 	@$(CARGO) run --release --target-dir target/cargo --manifest-path rust/bench/Cargo.toml
 
-sgal3-lib:
-	@$(call QUIETLY,rt check outcomes sgal3_blocks sgal3_matrix_blocks)
-	@$(call QUIETLY,rt staticlib sgal3_export)
+sgal3-lib: toolchain-check
+	@$(call STATIC_LIBRARY,sgal3_export)
 
 vectors:
 	@$(CARGO) run --release $(FLOAT) --bin sqrt_vectors > $(VECTORS)

@@ -1,1 +1,2 @@
 // The adjoint of a product of Galilean elements, in exact arithmetic. Laws alone, no code.
+#![tactic(auto)]

@@ -1,4 +1,6 @@
 // The chain on byte blocks, an element being 88 little-endian bytes: for the C entries and for the program.
+#![tactic(auto)]
+
 ghost use Rattle.std.specs.Prelude.{◌≡◌, ◌+◌, ◌*◌, ◌/◌, ◌≤◌, length};
 ghost use Rattle.element_bytes.specs.Bytes.{values_at};
 ghost use Rattle.sgal3_composition.specs.Calls.{chain_from};
@@ -32,6 +34,7 @@ fn earliest(first: Refusal, s: &[u8], start: usize, count: usize) -> Refusal
 
 // The answer of a chain that ends at a block, with `count` blocks after it from start on: the block's refusal, or an overflow if it
 // passed, unless one of those is tried first.
+#[tactic(auto, unfolding(crate::specs::Steps::ended_by))]
 fn ended(check: Check, s: &[u8], start: usize, count: usize) -> Answer
     requires { start + count * 88 ≤ length s.now }
     ensures { result ≡ chain_from (ended_by check) count (values_at (count * 11) s.now start) }

@@ -1,33 +1,49 @@
 // The chain of each file that is named as an argument: its name, and the report.
-use chain_run::Reading;
-use libc::STDOUT_FILENO;
+#![tactic(auto)]
 
-fn main() {
-    let count = os::arg_count();
-    for k in 1..count {
-        let mut name = io::buffer();
-        let n = os::arg(k, &mut name);
-        if os::errno() != 0 {
-            os::fail(b"the name of a case");
-            continue;
-        }
-        let fd = os::open_read(&name[..n]);
-        if fd < 0 {
-            os::fail(&name[..n]);
-            continue;
-        }
-        io::write_all(STDOUT_FILENO, &name[..n]);
-        io::write_all(STDOUT_FILENO, b"\n");
+use chain_run::{Noting, Reading};
+use std::env::FillError;
+use std::fs::File;
+use std::rt::Env;
+
+#[tactic(auto, unfolding(chain_run::specs::Reported::Reported))]
+fn main(rt: HostRuntime) {
+    for k in 1..usize::MAX {
+        let mut argument = [0u8; 4096];
+        let n = match rt.arg(k, &mut argument) {
+            Ok(n) => n,
+            Err(FillError::NotPresent) => return,
+            Err(FillError::TooLong) => {
+                let _ = eprintln!(rt; "the name of a case: File name too long");
+                continue;
+            }
+        };
+        let name = match str::from_utf8(&argument[..n]) {
+            Ok(name) => name,
+            Err(e) => {
+                let _ = eprintln!(rt; "the name of a case: {e}");
+                continue;
+            }
+        };
+        let mut file = match File::open(&rt, name) {
+            Ok(file) => Noting::new(file),
+            Err(e) => {
+                let _ = eprintln!(rt; "{name}: {e}");
+                continue;
+            }
+        };
+        let _ = println!(rt; "{name}");
         let mut space = [0u8; 65473];
         let mut page = [0u8; 220];
-        match chain_run::read_report(fd, &mut space, &mut page) {
+        match chain_run::read_report(&mut file, &mut space, &mut page) {
             Reading::Report { read: _, put } => {
-                if !io::write_all(STDOUT_FILENO, &page[..put]) {
-                    os::fail(b"standard output");
+                if let Err(e) = rt.write_all(&page[..put]) {
+                    let _ = eprintln!(rt; "standard output: {e}");
                 }
             }
-            Reading::Failed => os::fail(&name[..n]),
+            Reading::Failed => {
+                let _ = eprintln!(rt; "{name}: {}", file.error);
+            }
         }
-        libc::close(fd);
     }
 }

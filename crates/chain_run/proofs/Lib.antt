@@ -1,1 +1,1 @@
-pub mod Counted
+pub mod Known

@@ -1,4 +1,6 @@
 // Refusals with their numbers and figures, and the checks of a parameter block (util.rs, error.rs).
+#![tactic(auto)]
+
 ghost use Rattle.std.specs.Prelude.{◌≡◌, true, ◌+◌, ◌≤◌, length};
 ghost use Rattle.float.specs.Root.{square_root};
 ghost use Rattle.checks.specs.Refusals as Refusals;
@@ -6,7 +8,7 @@ ghost use Rattle.checks.specs.Checks as Checks;
 ghost use Rattle.checks.specs.declared.Check.TheVariants.{Passed};
 
 // Why a call is refused. A wrong length carries the expected and the actual one, a quaternion that is not unit its norm.
-#[derive(Drop)]
+#[derive(Clone, Copy)]
 pub enum Refusal {
     Length { expected: usize, actual: usize },
     NotFinite,
@@ -15,13 +17,14 @@ pub enum Refusal {
     Overflow,
 }
 
-#[derive(Drop)]
+#[derive(Clone, Copy)]
 pub enum Check {
     Passed,
     Refused(Refusal),
 }
 
 // How far from 1 the norm of a quaternion may be: QUATERNION_NORM_TOLERANCE of so3.rs.
+#[tactic(auto, unfolding(crate::specs::Checks::tolerance))]
 pub fn tolerance() -> f64
     ensures { result ≡ Checks.tolerance }
 {
@@ -29,6 +32,7 @@ pub fn tolerance() -> f64
 }
 
 impl Refusal {
+    #[tactic(auto, unfolding(crate::specs::Refusals::number))]
     pub fn number(self) -> u32
         ensures { result ≡ Refusals.number self }
     {
@@ -45,6 +49,7 @@ impl Refusal {
     }
 
     // The one that is tried first: of two blocks' refusals the smaller number, and at one number the left block's.
+    #[tactic(auto, unfolding(crate::specs::Refusals::earlier))]
     pub fn earlier(self, right: Refusal) -> Refusal
         ensures { result ≡ Refusals.earlier self right }
     {
@@ -57,6 +62,7 @@ impl Refusal {
 }
 
 // Of two blocks' checks, the refusal that is tried first.
+#[tactic(auto, unfolding(crate::specs::Checks::both))]
 pub fn both(left: Check, right: Check) -> Check
     ensures { result ≡ Checks.both left right }
 {
@@ -83,6 +89,7 @@ pub fn all_finite(s: &[f64]) -> bool
 }
 
 // A norm that is not finite is refused before one that is off.
+#[tactic(auto, unfolding(crate::specs::Checks::check_norm))]
 fn check_norm(norm: f64, tolerance: f64) -> Check
     ensures { result ≡ Checks.check_norm norm tolerance }
 {
@@ -105,6 +112,7 @@ fn passes_without_root(squared: f64, tolerance: f64) -> bool
 }
 
 // The four values w, x, y, z.
+#[tactic(auto, unfolding(crate::specs::Checks::check_unit_quaternion, crate::specs::Checks::norm_of))]
 pub fn check_unit_quaternion(q: &[f64], tolerance: f64) -> Check
     requires { length q.now ≡ 4 }
     ensures { result ≡ Checks.check_unit_quaternion q.now tolerance }
@@ -117,6 +125,7 @@ pub fn check_unit_quaternion(q: &[f64], tolerance: f64) -> Check
 }
 
 // Length, then all values.
+#[tactic(auto, unfolding(crate::specs::Checks::check_values))]
 pub fn check_values(s: &[f64], len: usize) -> Check
     ensures { result ≡ Checks.check_values s.now len }
 {
@@ -134,6 +143,7 @@ pub fn check_values(s: &[f64], len: usize) -> Check
 }
 
 // Then the quaternion whose four values start at `at`.
+#[tactic(auto, unfolding(crate::specs::Checks::check_param_block, crate::specs::Checks::next))]
 pub fn check_param_block(s: &[f64], len: usize, at: usize, tolerance: f64) -> Check
     requires { at + 4 ≤ len }
     ensures { result ≡ Checks.check_param_block s.now len at tolerance }
@@ -148,6 +158,7 @@ pub fn check_param_block(s: &[f64], len: usize, at: usize, tolerance: f64) -> Ch
 }
 
 // SGal3::validate_params: refuses 1 to 3.
+#[tactic(auto, unfolding(crate::specs::Checks::validate_sgal3_params))]
 pub fn validate_sgal3_params(s: &[f64]) -> Check
     ensures { result ≡ Checks.validate_sgal3_params s.now }
 {
@@ -155,6 +166,7 @@ pub fn validate_sgal3_params(s: &[f64]) -> Check
 }
 
 // SO3::validate_params: refuses 1 to 3.
+#[tactic(auto, unfolding(crate::specs::Checks::validate_so3_params))]
 pub fn validate_so3_params(s: &[f64]) -> Check
     ensures { result ≡ Checks.validate_so3_params s.now }
 {

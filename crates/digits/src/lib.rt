@@ -1,8 +1,11 @@
 // Numbers in digits, as bytes of a slice: hexadecimal, and decimal below 100.
+#![tactic(auto)]
+
 ghost use Rattle.std.specs.Prelude.{◌≡◌, ◌+◌, ◌<◌, ◌≤◌, length};
 ghost use Rattle.std.proofs.lemmas.List.Edits.{sets};
 ghost use Rattle.digits.specs.Digits as Digits;
 
+#[tactic(auto, unfolding(crate::specs::Digits::digit))]
 fn digit(d: u64) -> u8
     requires { d < 16 }
     ensures { result ≡ Digits.digit d }
@@ -29,6 +32,7 @@ pub fn put_hex(out: &mut [u8], at: usize, n: u64)
     }
 }
 
+#[tactic(auto, unfolding(crate::specs::Digits::tens))]
 fn tens(k: u64) -> u8
     requires { k < 100 }
     ensures { result ≡ Digits.tens k }
@@ -36,6 +40,7 @@ fn tens(k: u64) -> u8
     if k < 10 { b' ' } else { digit(k / 10) }
 }
 
+#[tactic(auto, unfolding(crate::specs::Digits::place))]
 pub fn put_place(out: &mut [u8], at: usize, k: u64)
     requires at_in_bounds { at + 3 ≤ length out.old }
     requires k_bound { k < 100 }
@@ -49,6 +54,7 @@ pub fn put_place(out: &mut [u8], at: usize, k: u64)
 }
 
 // The number, and the place after it.
+#[tactic(auto, unfolding(crate::specs::Digits::decimal))]
 pub fn put_decimal(out: &mut [u8], at: usize, n: u64) -> usize
     requires at_in_bounds { at + 2 ≤ length out.old }
     requires n_bound { n < 100 }

@@ -1,4 +1,6 @@
 // An element as 88 little-endian bytes: its values checked, read and stored.
+#![tactic(auto)]
+
 ghost use Rattle.std.specs.Prelude.{◌≡◌, true, ◌+◌, ◌≤◌, length};
 ghost use Rattle.std.proofs.lemmas.List.Edits.{sets};
 ghost use Rattle.checks.specs.Checks.{tolerance, all_finite, check_param_block};
@@ -28,6 +30,7 @@ fn all_finite(s: &[u8], start: usize) -> bool
 }
 
 // The vector of the 24 bytes from at on.
+#[tactic(auto, unfolding(crate::specs::Steps::vector_at))]
 fn vector(s: &[u8], at: usize) -> Vec3
     requires at_in_bounds { at + 24 ≤ length s.now }
     requires at_value { all_finite (Bytes.values_at 3 s.now at) ≡ true }
@@ -41,6 +44,7 @@ fn vector(s: &[u8], at: usize) -> Vec3
 }
 
 // The quaternion of the 32 bytes from at on.
+#[tactic(auto, unfolding(crate::specs::Steps::quaternion_at))]
 fn quaternion(s: &[u8], at: usize) -> Quaternion
     requires at_in_bounds { at + 32 ≤ length s.now }
     requires at_value { all_finite (Bytes.values_at 4 s.now at) ≡ true }
@@ -55,6 +59,7 @@ fn quaternion(s: &[u8], at: usize) -> Quaternion
 }
 
 // The element of the 88 bytes from at on, whose values are finite.
+#[tactic(auto, unfolding(sgal3::specs::Elements::element_of, crate::specs::Steps::vector_at, crate::specs::Steps::quaternion_at))]
 pub fn element(s: &[u8], at: usize) -> Element
     requires at_in_bounds { at + 88 ≤ length s.now }
     requires at_value { all_finite (Bytes.values_at 11 s.now at) ≡ true }

@@ -45,24 +45,24 @@ below-bits : (b : ℕ) → b / 2 ^ 52 ≡ 1022 → ((b / 2 ^ 52 + 1073) / 2 - 26
 below-bits b f = omega arith
 
 module _ (b : ℕ) (lo : 0x3fef_ffff_fc00_0000 ≤ b) (hi : b ≤ 0x3ff0_0000_0400_0000) where
-  from_one : 0x3ff0_0000_0000_0000 ≤ b → Rooted b ((b + 0x3ff0_0000_0000_0000) / 2)
-  from_one g =
-      let f : b / 2 ^ 52 ≡ 1023 = omega arith in
-      let d = b % 2 ^ 52 in
-      subst (Rooted b) (above-bits b f)
-      (root-of-field b 1023 (2 ^ 52 + d / 2) f (omega arith) (omega arith) (above-one d (d / 2) (2 ^ 53 + 2 * (d / 2) - 1) (omega arith) (omega arith) (omega arith) (omega arith)))
-
-  under_one : b < 0x3ff0_0000_0000_0000 → Rooted b ((b + 0x3ff0_0000_0000_0000) / 2)
-  under_one g =
-      let f : b / 2 ^ 52 ≡ 1022 = omega arith in
-      let t = b % 2 ^ 52 in
-      let q = 2 ^ 52 + t / 2 + 2 ^ 51 in
-      subst (Rooted b) (below-bits b f)
-      (root-of-field b 1022 q f (omega arith) (omega arith) (below_one (2 ^ 52 - t) (2 ^ 53 - q) (t + 2 ^ 52) q (2 * q - 1) (omega arith) (omega arith) (omega arith) (omega arith) (omega arith) (omega arith) (omega arith)))
-
   pub near-one : Rooted b ((b + 0x3ff0_0000_0000_0000) / 2)
   near-one = go (dec_le 0x3ff0_0000_0000_0000 b)
     where
+      from_one : 0x3ff0_0000_0000_0000 ≤ b → Rooted b ((b + 0x3ff0_0000_0000_0000) / 2)
+      from_one g =
+          let f : b / 2 ^ 52 ≡ 1023 = omega arith in
+          let d = b % 2 ^ 52 in
+          subst (Rooted b) (above-bits b f)
+          (root-of-field b 1023 (2 ^ 52 + d / 2) f (omega arith) (omega arith) (above-one d (d / 2) (2 ^ 53 + 2 * (d / 2) - 1) (omega arith) (omega arith) (omega arith) (omega arith)))
+
+      under_one : b < 0x3ff0_0000_0000_0000 → Rooted b ((b + 0x3ff0_0000_0000_0000) / 2)
+      under_one g =
+          let f : b / 2 ^ 52 ≡ 1022 = omega arith in
+          let t = b % 2 ^ 52 in
+          let q = 2 ^ 52 + t / 2 + 2 ^ 51 in
+          subst (Rooted b) (below-bits b f)
+          (root-of-field b 1022 q f (omega arith) (omega arith) (below_one (2 ^ 52 - t) (2 ^ 53 - q) (t + 2 ^ 52) q (2 * q - 1) (omega arith) (omega arith) (omega arith) (omega arith) (omega arith) (omega arith) (omega arith)))
+
       go : Dec (0x3ff0_0000_0000_0000 ≤ b) → Rooted b ((b + 0x3ff0_0000_0000_0000) / 2)
       go (yes g) = from_one g
       go (no g) = under_one (lt_of_not-le g)

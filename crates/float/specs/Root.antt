@@ -1,4 +1,4 @@
--- IEEE 754's square_root at binary64, by comparing squares of whole numbers, in the shape of lib.Ieee's `round`. Definitions only.
+-- IEEE 754's squareRoot at binary64, by comparing squares of whole numbers, in the shape of lib.Ieee's `round`. Definitions only.
 -- That the result is the nearest binary64 to the root is a theorem (`sqrt-root` of the crate `rounding`).
 use Prim.Native.Nat.{ℕ, zero, suc, ◌+◌, ◌-◌, ◌*◌, ◌/◌, ◌^◌, compare}
 use Rattle.std.specs.Prelude.{true, false, cond, leb, Float}

@@ -1,4 +1,6 @@
 // The number leaf: finite test, magnitude, and IEEE 754's square root of an f64.
+#![tactic(auto)]
+
 ghost use Rattle.std.specs.Prelude.{◌≡◌, true, ◌+◌, ◌*◌, ◌^◌, ◌<◌, ◌≤◌};
 ghost use Rattle.std.specs.Float.{binary64};
 ghost use Rattle.std.specs.Float.Ieee.{of_bits};
@@ -171,7 +173,7 @@ fn root_bits_by_square(b: u64, n: u64) -> u64
 }
 
 // A whole number as m * 2^j, m having 53 binary digits.
-#[derive(Drop)]
+#[derive(Clone, Copy)]
 struct Scaled {
     m: u64,
     j: u64,

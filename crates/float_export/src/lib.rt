@@ -1,4 +1,6 @@
 // The square root for C and Rust, to be compared and timed there.
+#![tactic(auto)]
+
 ghost use Rattle.std.specs.Prelude.{◌≡◌};
 ghost use Rattle.float.specs.Root.{square_root, square_root_bits};
 

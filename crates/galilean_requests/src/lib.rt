@@ -1,11 +1,14 @@
 // A request on the Galilean group answered: the calls 70 to 111 by their numbers, and the outcome of each as bytes. No bytes where
 // there is no such call.
+#![tactic(auto)]
+
 ghost use Rattle.outcomes.specs.Outcomes as Outcomes;
 ghost use Rattle.galilean_requests.specs.Requests as Requests;
 
 use checks::Check;
 
 // Elements of the Galilean group: the calls that the handset makes, and the parts of one.
+#[tactic(auto, unfolding(crate::specs::Requests::element_call))]
 fn element_call(call: u64, left: &[f64], right: &[f64], extra: u64, out: &mut [u8; 832]) -> usize
     ensures { Outcomes.Put result out.old out.new (Requests.element_call call left.now right.now extra) }
 {
@@ -24,6 +27,7 @@ fn element_call(call: u64, left: &[f64], right: &[f64], extra: u64, out: &mut [u
 }
 
 // The logarithm of an element of the Galilean group, and what it acts on.
+#[tactic(auto, unfolding(crate::specs::Requests::log_call))]
 fn log_call(call: u64, left: &[f64], right: &[f64], extra: u64, out: &mut [u8; 832]) -> usize
     ensures { Outcomes.Put result out.old out.new (Requests.log_call call left.now right.now extra) }
 {
@@ -39,6 +43,7 @@ fn log_call(call: u64, left: &[f64], right: &[f64], extra: u64, out: &mut [u8; 8
 }
 
 // A tangent of the Galilean group, and what takes no block.
+#[tactic(auto, unfolding(crate::specs::Requests::tangent_call))]
 fn tangent_call(call: u64, left: &[f64], right: &[f64], extra: u64, out: &mut [u8; 832]) -> usize
     ensures { Outcomes.Put result out.old out.new (Requests.tangent_call call left.now right.now extra) }
 {
@@ -57,6 +62,7 @@ fn tangent_call(call: u64, left: &[f64], right: &[f64], extra: u64, out: &mut [u
 }
 
 // The matrices of the Galilean group.
+#[tactic(auto, unfolding(crate::specs::Requests::matrix_call))]
 fn matrix_call(call: u64, left: &[f64], right: &[f64], extra: u64, out: &mut [u8; 832]) -> usize
     ensures { Outcomes.Put result out.old out.new (Requests.matrix_call call left.now right.now extra) }
 {
@@ -78,6 +84,7 @@ fn matrix_call(call: u64, left: &[f64], right: &[f64], extra: u64, out: &mut [u8
 }
 
 // Plus of an element and a tangent, and minus of two elements, from either side.
+#[tactic(auto, unfolding(crate::specs::Requests::plus_call))]
 fn plus_call(call: u64, left: &[f64], right: &[f64], extra: u64, out: &mut [u8; 832]) -> usize
     ensures { Outcomes.Put result out.old out.new (Requests.plus_call call left.now right.now extra) }
 {
@@ -99,6 +106,7 @@ fn plus_call(call: u64, left: &[f64], right: &[f64], extra: u64, out: &mut [u8; 
 }
 
 // What leads from one element to another; plus and minus of elements by their short names.
+#[tactic(auto, unfolding(crate::specs::Requests::between_call))]
 fn between_call(call: u64, left: &[f64], right: &[f64], extra: u64, out: &mut [u8; 832]) -> usize
     ensures { Outcomes.Put result out.old out.new (Requests.between_call call left.now right.now extra) }
 {
@@ -122,6 +130,7 @@ fn between_call(call: u64, left: &[f64], right: &[f64], extra: u64, out: &mut [u
     }
 }
 
+#[tactic(auto, unfolding(crate::specs::Requests::generator_call))]
 fn generator_call(extra: u64, out: &mut [u8; 832]) -> usize
     ensures { Outcomes.Put result out.old out.new (Requests.generator_call extra) }
 {
@@ -129,6 +138,7 @@ fn generator_call(extra: u64, out: &mut [u8; 832]) -> usize
     outcomes::put_36(out, Check::Passed, &values)
 }
 
+#[tactic(auto, unfolding(crate::specs::Requests::answer))]
 pub fn answer(call: u64, left: &[f64], right: &[f64], extra: u64, out: &mut [u8; 832]) -> usize
     ensures { Outcomes.Put result out.old out.new (Requests.answer call left.now right.now extra) }
 {

@@ -1,5 +1,7 @@
-// What the firmware calls: compose, also in place, inverse and the chain on little-endian byte blocks, an element being 88 bytes. An entry
-// answers 0, or the number of a refusal, and then the output is as it was.
+// What the firmware calls, by way of handset_c: compose, also in place, inverse and the chain on little-endian byte blocks, an element being
+// 88 bytes. An entry answers 0, or the number of a refusal, and then the output is as it was.
+#![tactic(auto)]
+
 ghost use Rattle.std.specs.Prelude.{◌≡◌, ◌/◌, length};
 ghost use Rattle.byte_chain.specs.Steps.{chain_after};
 ghost use Rattle.handset.specs.Entries as Entries;
@@ -54,8 +56,7 @@ fn store_chain(first: &[u8], blocks: &[u8], out: &mut [u8]) -> u32
     finish(byte_chain::chain_blocks(one, s), out)
 }
 
-#[unsafe(no_mangle)]
-pub extern "C" fn sgal3_compose(left: &[u8], right: &[u8], out: &mut [u8]) -> u32
+pub fn sgal3_compose(left: &[u8], right: &[u8], out: &mut [u8]) -> u32
     ensures { Entries.Answered (Entries.compose left.now right.now out.old) out.old out.new result }
 {
     if out.len() != 88 {
@@ -71,8 +72,7 @@ pub extern "C" fn sgal3_compose(left: &[u8], right: &[u8], out: &mut [u8]) -> u3
 }
 
 // The step after the element held, stored over it; a refusal leaves it as it was.
-#[unsafe(no_mangle)]
-pub extern "C" fn sgal3_compose_in_place(held: &mut [u8], step: &[u8]) -> u32
+pub fn sgal3_compose_in_place(held: &mut [u8], step: &[u8]) -> u32
     ensures { Entries.Answered (Entries.compose_in_place held.old step.now) held.old held.new result }
 {
     if held.len() != 88 {
@@ -84,8 +84,7 @@ pub extern "C" fn sgal3_compose_in_place(held: &mut [u8], step: &[u8]) -> u32
     store_chain(b"", step, held)
 }
 
-#[unsafe(no_mangle)]
-pub extern "C" fn sgal3_inverse(block: &[u8], out: &mut [u8]) -> u32
+pub fn sgal3_inverse(block: &[u8], out: &mut [u8]) -> u32
     ensures { Entries.Answered (Entries.inverse block.now out.old) out.old out.new result }
 {
     if out.len() != 88 {
@@ -103,8 +102,7 @@ pub extern "C" fn sgal3_inverse(block: &[u8], out: &mut [u8]) -> u32
     r.number()
 }
 
-#[unsafe(no_mangle)]
-pub extern "C" fn sgal3_chain(blocks: &[u8], out: &mut [u8]) -> u32
+pub fn sgal3_chain(blocks: &[u8], out: &mut [u8]) -> u32
     ensures { Entries.Answered (Entries.chain blocks.now out.old) out.old out.new result }
 {
     if out.len() != 88 {

@@ -1,11 +1,13 @@
 // Vectors, quaternions and matrices of three rows, by value. Each result is a formula of `law` at the rounded operations;
 // docs/ARITHMETIC.md lists the orders.
+#![tactic(auto)]
+
 ghost use Rattle.std.specs.Prelude.{◌≡◌};
 ghost use Rattle.linear.specs.Vectors as Vectors;
 ghost use Rattle.linear.specs.Quaternions as Quaternions;
 ghost use Rattle.linear.specs.Matrices as Matrices;
 
-#[derive(Drop)]
+#[derive(Clone, Copy)]
 pub struct Vec3 {
     pub x: f64,
     pub y: f64,
@@ -13,6 +15,7 @@ pub struct Vec3 {
 }
 
 impl Vec3 {
+    #[tactic(auto, unfolding(crate::specs::Vectors::zero, law::specs::Vector::zero))]
     pub fn zero() -> Vec3
         ensures { result ≡ Vectors.zero }
     {
@@ -23,6 +26,7 @@ impl Vec3 {
         }
     }
 
+    #[tactic(auto, unfolding(crate::specs::Vectors::add, law::specs::Vector::add))]
     pub fn add(self, other: Vec3) -> Vec3
         ensures { result ≡ Vectors.add self other }
     {
@@ -33,6 +37,7 @@ impl Vec3 {
         }
     }
 
+    #[tactic(auto, unfolding(crate::specs::Vectors::sub, law::specs::Vector::sub))]
     pub fn sub(self, other: Vec3) -> Vec3
         ensures { result ≡ Vectors.sub self other }
     {
@@ -43,6 +48,7 @@ impl Vec3 {
         }
     }
 
+    #[tactic(auto, unfolding(crate::specs::Vectors::neg, law::specs::Vector::neg))]
     pub fn neg(self) -> Vec3
         ensures { result ≡ Vectors.neg self }
     {
@@ -53,6 +59,7 @@ impl Vec3 {
         }
     }
 
+    #[tactic(auto, unfolding(crate::specs::Vectors::scale, law::specs::Vector::scale))]
     pub fn scale(self, k: f64) -> Vec3
         ensures { result ≡ Vectors.scale self k }
     {
@@ -63,6 +70,7 @@ impl Vec3 {
         }
     }
 
+    #[tactic(auto, unfolding(crate::specs::Vectors::divide, law::specs::Vector::divide))]
     pub fn divide(self, k: f64) -> Vec3
         ensures { result ≡ Vectors.divide self k }
     {
@@ -73,6 +81,7 @@ impl Vec3 {
         }
     }
 
+    #[tactic(auto, unfolding(crate::specs::Vectors::cross, law::specs::Vector::cross))]
     pub fn cross(self, other: Vec3) -> Vec3
         ensures { result ≡ Vectors.cross self other }
     {
@@ -83,18 +92,21 @@ impl Vec3 {
         }
     }
 
+    #[tactic(auto, unfolding(crate::specs::Vectors::dot, law::specs::Vector::dot))]
     pub fn dot(self, other: Vec3) -> f64
         ensures { result ≡ Vectors.dot self other }
     {
         self.x * other.x + self.y * other.y + self.z * other.z
     }
 
+    #[tactic(auto, unfolding(crate::specs::Vectors::norm_squared, law::specs::Vector::norm_squared))]
     pub fn norm_squared(self) -> f64
         ensures { result ≡ Vectors.norm_squared self }
     {
         self.x * self.x + self.y * self.y + self.z * self.z
     }
 
+    #[tactic(auto, unfolding(crate::specs::Vectors::norm, crate::specs::Vectors::norm_squared, law::specs::Vector::norm))]
     pub fn norm(self) -> f64
         ensures { result ≡ Vectors.norm self }
     {
@@ -102,7 +114,7 @@ impl Vec3 {
     }
 }
 
-#[derive(Drop)]
+#[derive(Clone, Copy)]
 pub struct Quaternion {
     pub w: f64,
     pub x: f64,
@@ -111,6 +123,7 @@ pub struct Quaternion {
 }
 
 impl Quaternion {
+    #[tactic(auto, unfolding(crate::specs::Quaternions::identity, law::specs::Quaternion::identity))]
     pub fn identity() -> Quaternion
         ensures { result ≡ Quaternions.identity }
     {
@@ -123,6 +136,7 @@ impl Quaternion {
     }
 
     // The vector part.
+    #[tactic(auto, unfolding(crate::specs::Quaternions::vector, law::specs::Quaternion::vector))]
     pub fn vector(self) -> Vec3
         ensures { result ≡ Quaternions.vector self }
     {
@@ -133,12 +147,14 @@ impl Quaternion {
         }
     }
 
+    #[tactic(auto, unfolding(crate::specs::Quaternions::norm, law::specs::Quaternion::norm, law::specs::Quaternion::norm_squared))]
     pub fn norm(self) -> f64
         ensures { result ≡ Quaternions.norm self }
     {
         float::sqrt((self.x * self.x + self.z * self.z) + (self.y * self.y + self.w * self.w))
     }
 
+    #[tactic(auto, unfolding(crate::specs::Quaternions::divide, law::specs::Quaternion::divide))]
     pub fn divide(self, k: f64) -> Quaternion
         ensures { result ≡ Quaternions.divide self k }
     {
@@ -150,12 +166,14 @@ impl Quaternion {
         }
     }
 
+    #[tactic(auto, unfolding(crate::specs::Quaternions::normalize, crate::specs::Quaternions::norm, crate::specs::Quaternions::divide, law::specs::Quaternion::normalize))]
     pub fn normalize(self) -> Quaternion
         ensures { result ≡ Quaternions.normalize self }
     {
         self.divide(self.norm())
     }
 
+    #[tactic(auto, unfolding(crate::specs::Quaternions::mul, law::specs::Quaternion::mul))]
     pub fn mul(self, other: Quaternion) -> Quaternion
         ensures { result ≡ Quaternions.mul self other }
     {
@@ -167,6 +185,7 @@ impl Quaternion {
         }
     }
 
+    #[tactic(auto, unfolding(crate::specs::Quaternions::conjugate, law::specs::Quaternion::conjugate))]
     pub fn conjugate(self) -> Quaternion
         ensures { result ≡ Quaternions.conjugate self }
     {
@@ -186,6 +205,7 @@ impl Quaternion {
         c.scale(self.w).add(u.cross(c)).add(p)
     }
 
+    #[tactic(auto, unfolding(crate::specs::Quaternions::rotation_matrix, law::specs::Quaternion::rotation_matrix))]
     pub fn rotation_matrix(self) -> Mat3
         ensures { result ≡ Quaternions.rotation_matrix self }
     {
@@ -220,7 +240,7 @@ impl Quaternion {
 }
 
 // Three by three, by rows.
-#[derive(Drop)]
+#[derive(Clone, Copy)]
 pub struct Mat3 {
     pub row0: Vec3,
     pub row1: Vec3,
@@ -228,6 +248,7 @@ pub struct Mat3 {
 }
 
 impl Mat3 {
+    #[tactic(auto, unfolding(crate::specs::Matrices::identity, law::specs::Matrix::identity))]
     pub fn identity() -> Mat3
         ensures { result ≡ Matrices.identity }
     {
@@ -251,6 +272,7 @@ impl Mat3 {
     }
 
     // The matrix of the cross product with a.
+    #[tactic(auto, unfolding(crate::specs::Matrices::hat, law::specs::Matrix::hat))]
     pub fn hat(a: Vec3) -> Mat3
         ensures { result ≡ Matrices.hat a }
     {
@@ -273,6 +295,7 @@ impl Mat3 {
         }
     }
 
+    #[tactic(auto, unfolding(crate::specs::Matrices::add, crate::specs::Vectors::add, law::specs::Matrix::add))]
     pub fn add(self, other: Mat3) -> Mat3
         ensures { result ≡ Matrices.add self other }
     {
@@ -283,6 +306,7 @@ impl Mat3 {
         }
     }
 
+    #[tactic(auto, unfolding(crate::specs::Matrices::sub, crate::specs::Vectors::sub, law::specs::Matrix::sub))]
     pub fn sub(self, other: Mat3) -> Mat3
         ensures { result ≡ Matrices.sub self other }
     {
@@ -293,6 +317,7 @@ impl Mat3 {
         }
     }
 
+    #[tactic(auto, unfolding(crate::specs::Matrices::neg, crate::specs::Vectors::neg, law::specs::Matrix::neg))]
     pub fn neg(self) -> Mat3
         ensures { result ≡ Matrices.neg self }
     {
@@ -303,6 +328,7 @@ impl Mat3 {
         }
     }
 
+    #[tactic(auto, unfolding(crate::specs::Matrices::scale, crate::specs::Vectors::scale, law::specs::Matrix::scale))]
     pub fn scale(self, k: f64) -> Mat3
         ensures { result ≡ Matrices.scale self k }
     {
@@ -313,6 +339,7 @@ impl Mat3 {
         }
     }
 
+    #[tactic(auto, unfolding(crate::specs::Matrices::transpose, law::specs::Matrix::transpose))]
     pub fn transpose(self) -> Mat3
         ensures { result ≡ Matrices.transpose self }
     {
@@ -336,6 +363,7 @@ impl Mat3 {
     }
 
     // This matrix times a column.
+    #[tactic(auto, unfolding(crate::specs::Matrices::apply, crate::specs::Vectors::dot, law::specs::Matrix::apply))]
     pub fn apply(self, p: Vec3) -> Vec3
         ensures { result ≡ Matrices.apply self p }
     {
@@ -346,6 +374,7 @@ impl Mat3 {
         }
     }
 
+    #[tactic(auto, unfolding(crate::specs::Matrices::mul, crate::specs::Matrices::row_by, law::specs::Matrix::mul))]
     pub fn mul(self, other: Mat3) -> Mat3
         ensures { result ≡ Matrices.mul self other }
     {
@@ -358,6 +387,7 @@ impl Mat3 {
 }
 
 // A row times a matrix.
+#[tactic(auto, unfolding(crate::specs::Matrices::row_by, law::specs::Matrix::row_by))]
 fn row_by(a: Vec3, m: Mat3) -> Vec3
     ensures { result ≡ Matrices.row_by a m }
 {

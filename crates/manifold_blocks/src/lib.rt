@@ -1,5 +1,7 @@
 // The group-wide calls on blocks, for rotations: plus, minus and between, with their Jacobians. A call refuses 4 where the exp or
 // log in it would leave the series branch, and a Jacobian where one of its own tests would too.
+#![tactic(auto)]
+
 ghost use Rattle.std.specs.Prelude.{◌≡◌};
 ghost use Rattle.so3_blocks.specs.Calls as So3;
 ghost use Rattle.manifold_blocks.specs.Calls as Calls;
@@ -9,6 +11,7 @@ use so3::Tangent;
 use so3_answers::{Answer, MatrixAnswer, TangentAnswer};
 use so3_inputs::{ElementAndVector, Elements};
 
+#[tactic(auto, unfolding(crate::specs::Calls::right_plus))]
 pub fn so3_right_plus(block: &[f64], tangent: &[f64]) -> Answer
     ensures { result ≡ Calls.right_plus block.now tangent.now }
 {
@@ -21,6 +24,7 @@ pub fn so3_right_plus(block: &[f64], tangent: &[f64]) -> Answer
     }
 }
 
+#[tactic(auto, unfolding(crate::specs::Calls::right_plus_jacobian_self))]
 pub fn so3_right_plus_jacobian_self(block: &[f64], tangent: &[f64]) -> MatrixAnswer
     ensures { result ≡ Calls.right_plus_jacobian_self block.now tangent.now }
 {
@@ -32,6 +36,7 @@ pub fn so3_right_plus_jacobian_self(block: &[f64], tangent: &[f64]) -> MatrixAns
     }
 }
 
+#[tactic(auto, unfolding(crate::specs::Calls::right_plus_jacobian_tangent))]
 pub fn so3_right_plus_jacobian_tangent(block: &[f64], tangent: &[f64]) -> MatrixAnswer
     ensures { result ≡ Calls.right_plus_jacobian_tangent block.now tangent.now }
 {
@@ -43,6 +48,7 @@ pub fn so3_right_plus_jacobian_tangent(block: &[f64], tangent: &[f64]) -> Matrix
     }
 }
 
+#[tactic(auto, unfolding(crate::specs::Calls::left_plus))]
 pub fn so3_left_plus(block: &[f64], tangent: &[f64]) -> Answer
     ensures { result ≡ Calls.left_plus block.now tangent.now }
 {
@@ -55,6 +61,7 @@ pub fn so3_left_plus(block: &[f64], tangent: &[f64]) -> Answer
     }
 }
 
+#[tactic(auto, unfolding(crate::specs::Calls::left_plus_jacobian_tangent))]
 pub fn so3_left_plus_jacobian_tangent(block: &[f64], tangent: &[f64]) -> MatrixAnswer
     ensures { result ≡ Calls.left_plus_jacobian_tangent block.now tangent.now }
 {
@@ -66,6 +73,7 @@ pub fn so3_left_plus_jacobian_tangent(block: &[f64], tangent: &[f64]) -> MatrixA
     }
 }
 
+#[tactic(auto, unfolding(crate::specs::Calls::left_plus_jacobian_self))]
 pub fn so3_left_plus_jacobian_self(block: &[f64], tangent: &[f64]) -> MatrixAnswer
     ensures { result ≡ Calls.left_plus_jacobian_self block.now tangent.now }
 {
@@ -75,6 +83,7 @@ pub fn so3_left_plus_jacobian_self(block: &[f64], tangent: &[f64]) -> MatrixAnsw
     }
 }
 
+#[tactic(auto, unfolding(crate::specs::Calls::right_minus))]
 pub fn so3_right_minus(left: &[f64], right: &[f64]) -> TangentAnswer
     ensures { result ≡ Calls.right_minus left.now right.now }
 {
@@ -84,6 +93,7 @@ pub fn so3_right_minus(left: &[f64], right: &[f64]) -> TangentAnswer
     }
 }
 
+#[tactic(auto, unfolding(crate::specs::Calls::right_minus_jacobian_self))]
 pub fn so3_right_minus_jacobian_self(left: &[f64], right: &[f64]) -> MatrixAnswer
     ensures { result ≡ Calls.right_minus_jacobian_self left.now right.now }
 {
@@ -95,6 +105,7 @@ pub fn so3_right_minus_jacobian_self(left: &[f64], right: &[f64]) -> MatrixAnswe
     }
 }
 
+#[tactic(auto, unfolding(crate::specs::Calls::right_minus_jacobian_other))]
 pub fn so3_right_minus_jacobian_other(left: &[f64], right: &[f64]) -> MatrixAnswer
     ensures { result ≡ Calls.right_minus_jacobian_other left.now right.now }
 {
@@ -106,6 +117,7 @@ pub fn so3_right_minus_jacobian_other(left: &[f64], right: &[f64]) -> MatrixAnsw
     }
 }
 
+#[tactic(auto, unfolding(crate::specs::Calls::left_minus))]
 pub fn so3_left_minus(left: &[f64], right: &[f64]) -> TangentAnswer
     ensures { result ≡ Calls.left_minus left.now right.now }
 {
@@ -115,6 +127,7 @@ pub fn so3_left_minus(left: &[f64], right: &[f64]) -> TangentAnswer
     }
 }
 
+#[tactic(auto, unfolding(crate::specs::Calls::left_minus_jacobian_self))]
 pub fn so3_left_minus_jacobian_self(left: &[f64], right: &[f64]) -> MatrixAnswer
     ensures { result ≡ Calls.left_minus_jacobian_self left.now right.now }
 {
@@ -126,6 +139,7 @@ pub fn so3_left_minus_jacobian_self(left: &[f64], right: &[f64]) -> MatrixAnswer
     }
 }
 
+#[tactic(auto, unfolding(crate::specs::Calls::left_minus_jacobian_other))]
 pub fn so3_left_minus_jacobian_other(left: &[f64], right: &[f64]) -> MatrixAnswer
     ensures { result ≡ Calls.left_minus_jacobian_other left.now right.now }
 {
@@ -137,6 +151,7 @@ pub fn so3_left_minus_jacobian_other(left: &[f64], right: &[f64]) -> MatrixAnswe
     }
 }
 
+#[tactic(auto, unfolding(crate::specs::Calls::between))]
 pub fn so3_between(left: &[f64], right: &[f64]) -> Answer
     ensures { result ≡ Calls.between left.now right.now }
 {
@@ -146,6 +161,7 @@ pub fn so3_between(left: &[f64], right: &[f64]) -> Answer
     }
 }
 
+#[tactic(auto, unfolding(crate::specs::Calls::between_jacobian_self))]
 pub fn so3_between_jacobian_self(left: &[f64], right: &[f64]) -> MatrixAnswer
     ensures { result ≡ Calls.between_jacobian_self left.now right.now }
 {
@@ -165,18 +181,21 @@ pub fn so3_between_jacobian_other(left: &[f64], right: &[f64]) -> MatrixAnswer
 }
 
 // Plus is the one on the right.
+#[tactic(auto, unfolding(crate::specs::Calls::right_plus))]
 pub fn so3_plus(block: &[f64], tangent: &[f64]) -> Answer
     ensures { result ≡ Calls.right_plus block.now tangent.now }
 {
     so3_right_plus(block, tangent)
 }
 
+#[tactic(auto, unfolding(crate::specs::Calls::right_plus_jacobian_self))]
 pub fn so3_plus_jacobian_self(block: &[f64], tangent: &[f64]) -> MatrixAnswer
     ensures { result ≡ Calls.right_plus_jacobian_self block.now tangent.now }
 {
     so3_right_plus_jacobian_self(block, tangent)
 }
 
+#[tactic(auto, unfolding(crate::specs::Calls::right_plus_jacobian_tangent))]
 pub fn so3_plus_jacobian_tangent(block: &[f64], tangent: &[f64]) -> MatrixAnswer
     ensures { result ≡ Calls.right_plus_jacobian_tangent block.now tangent.now }
 {
@@ -184,18 +203,21 @@ pub fn so3_plus_jacobian_tangent(block: &[f64], tangent: &[f64]) -> MatrixAnswer
 }
 
 // Minus is the one on the right.
+#[tactic(auto, unfolding(crate::specs::Calls::right_minus))]
 pub fn so3_minus(left: &[f64], right: &[f64]) -> TangentAnswer
     ensures { result ≡ Calls.right_minus left.now right.now }
 {
     so3_right_minus(left, right)
 }
 
+#[tactic(auto, unfolding(crate::specs::Calls::right_minus_jacobian_self))]
 pub fn so3_minus_jacobian_self(left: &[f64], right: &[f64]) -> MatrixAnswer
     ensures { result ≡ Calls.right_minus_jacobian_self left.now right.now }
 {
     so3_right_minus_jacobian_self(left, right)
 }
 
+#[tactic(auto, unfolding(crate::specs::Calls::right_minus_jacobian_other))]
 pub fn so3_minus_jacobian_other(left: &[f64], right: &[f64]) -> MatrixAnswer
     ensures { result ≡ Calls.right_minus_jacobian_other left.now right.now }
 {

@@ -1,5 +1,7 @@
 // The group-wide calls on blocks of the Galilean group: plus, minus and between, with the Jacobians that need no central
 // differences. A call refuses 4 where the exp or log in it would leave the series branch.
+#![tactic(auto)]
+
 ghost use Rattle.std.specs.Prelude.{◌≡◌};
 ghost use Rattle.sgal3_matrix_blocks.specs.Calls as Matrices;
 ghost use Rattle.manifold_sgal3_blocks.specs.Turns as Turns;
@@ -11,6 +13,7 @@ use sgal3_composition::Answer;
 use sgal3_inputs::{ElementAndTangent, Elements};
 
 // Plus takes the exp of its tangent.
+#[tactic(auto, unfolding(crate::specs::Turns::within_plus))]
 fn within_plus(a: Element, t: Tangent) -> ElementAndTangent
     ensures { result ≡ Turns.within_plus a t }
 {
@@ -21,6 +24,7 @@ fn within_plus(a: Element, t: Tangent) -> ElementAndTangent
 }
 
 // Minus takes the log of d.
+#[tactic(auto, unfolding(crate::specs::Turns::within_minus))]
 fn within_minus(d: Element, a: Element, b: Element) -> Elements
     ensures { result ≡ Turns.within_minus d a b }
 {
@@ -30,6 +34,7 @@ fn within_minus(d: Element, a: Element, b: Element) -> Elements
     }
 }
 
+#[tactic(auto, unfolding(crate::specs::Turns::check_plus))]
 fn check_plus(block: &[f64], tangent: &[f64]) -> ElementAndTangent
     ensures { result ≡ Turns.check_plus block.now tangent.now }
 {
@@ -39,6 +44,7 @@ fn check_plus(block: &[f64], tangent: &[f64]) -> ElementAndTangent
     }
 }
 
+#[tactic(auto, unfolding(crate::specs::Turns::check_right_minus))]
 fn check_right_minus(left: &[f64], right: &[f64]) -> Elements
     ensures { result ≡ Turns.check_right_minus left.now right.now }
 {
@@ -48,6 +54,7 @@ fn check_right_minus(left: &[f64], right: &[f64]) -> Elements
     }
 }
 
+#[tactic(auto, unfolding(crate::specs::Turns::check_left_minus))]
 fn check_left_minus(left: &[f64], right: &[f64]) -> Elements
     ensures { result ≡ Turns.check_left_minus left.now right.now }
 {
@@ -58,6 +65,7 @@ fn check_left_minus(left: &[f64], right: &[f64]) -> Elements
 }
 
 // ---- The calls
+#[tactic(auto, unfolding(crate::specs::Calls::right_plus))]
 pub fn sgal3_right_plus(block: &[f64], tangent: &[f64]) -> Answer
     ensures { result ≡ Calls.right_plus block.now tangent.now }
 {
@@ -69,6 +77,7 @@ pub fn sgal3_right_plus(block: &[f64], tangent: &[f64]) -> Answer
     }
 }
 
+#[tactic(auto, unfolding(crate::specs::Calls::right_plus_jacobian_self))]
 pub fn sgal3_right_plus_jacobian_self(block: &[f64], tangent: &[f64]) -> Matrix10Answer
     ensures { result ≡ Calls.right_plus_jacobian_self block.now tangent.now }
 {
@@ -80,6 +89,7 @@ pub fn sgal3_right_plus_jacobian_self(block: &[f64], tangent: &[f64]) -> Matrix1
     }
 }
 
+#[tactic(auto, unfolding(crate::specs::Calls::left_plus))]
 pub fn sgal3_left_plus(block: &[f64], tangent: &[f64]) -> Answer
     ensures { result ≡ Calls.left_plus block.now tangent.now }
 {
@@ -91,6 +101,7 @@ pub fn sgal3_left_plus(block: &[f64], tangent: &[f64]) -> Answer
     }
 }
 
+#[tactic(auto, unfolding(crate::specs::Calls::left_plus_jacobian_self))]
 pub fn sgal3_left_plus_jacobian_self(block: &[f64], tangent: &[f64]) -> Matrix10Answer
     ensures { result ≡ Calls.left_plus_jacobian_self block.now tangent.now }
 {
@@ -102,6 +113,7 @@ pub fn sgal3_left_plus_jacobian_self(block: &[f64], tangent: &[f64]) -> Matrix10
     }
 }
 
+#[tactic(auto, unfolding(crate::specs::Calls::right_minus))]
 pub fn sgal3_right_minus(left: &[f64], right: &[f64]) -> TangentAnswer
     ensures { result ≡ Calls.right_minus left.now right.now }
 {
@@ -111,6 +123,7 @@ pub fn sgal3_right_minus(left: &[f64], right: &[f64]) -> TangentAnswer
     }
 }
 
+#[tactic(auto, unfolding(crate::specs::Calls::left_minus))]
 pub fn sgal3_left_minus(left: &[f64], right: &[f64]) -> TangentAnswer
     ensures { result ≡ Calls.left_minus left.now right.now }
 {
@@ -120,6 +133,7 @@ pub fn sgal3_left_minus(left: &[f64], right: &[f64]) -> TangentAnswer
     }
 }
 
+#[tactic(auto, unfolding(crate::specs::Calls::between))]
 pub fn sgal3_between(left: &[f64], right: &[f64]) -> Answer
     ensures { result ≡ Calls.between left.now right.now }
 {
@@ -129,6 +143,7 @@ pub fn sgal3_between(left: &[f64], right: &[f64]) -> Answer
     }
 }
 
+#[tactic(auto, unfolding(crate::specs::Calls::between_jacobian_self))]
 pub fn sgal3_between_jacobian_self(left: &[f64], right: &[f64]) -> Matrix10Answer
     ensures { result ≡ Calls.between_jacobian_self left.now right.now }
 {

@@ -1,5 +1,7 @@
 // Where plus or minus of rotations would leave the series branch of the exp or log in it: the refusal 4. A Jacobian tests its own series
 // as well.
+#![tactic(auto)]
+
 ghost use Rattle.std.specs.Prelude.{◌≡◌};
 ghost use Rattle.manifold_turns.specs.Turns as Turns;
 
@@ -9,6 +11,7 @@ use so3::{Element, Tangent};
 use so3_inputs::{ElementAndVector, Elements};
 
 // Plus takes the exp of its tangent.
+#[tactic(auto, unfolding(crate::specs::Turns::within_plus))]
 fn within_plus(a: Element, p: Vec3) -> ElementAndVector
     ensures { result ≡ Turns.within_plus a p }
 {
@@ -19,6 +22,7 @@ fn within_plus(a: Element, p: Vec3) -> ElementAndVector
 }
 
 // Minus takes the log of d.
+#[tactic(auto, unfolding(crate::specs::Turns::within_minus))]
 fn within_minus(d: Element, a: Element, b: Element) -> Elements
     ensures { result ≡ Turns.within_minus d a b }
 {
@@ -29,6 +33,7 @@ fn within_minus(d: Element, a: Element, b: Element) -> Elements
 }
 
 // Its Jacobians test the squared angle of that log as well.
+#[tactic(auto, unfolding(crate::specs::Turns::within_minus_jacobian))]
 fn within_minus_jacobian(d: Element, a: Element, b: Element) -> Elements
     ensures { result ≡ Turns.within_minus_jacobian d a b }
 {
@@ -38,6 +43,7 @@ fn within_minus_jacobian(d: Element, a: Element, b: Element) -> Elements
     within_minus(d, a, b)
 }
 
+#[tactic(auto, unfolding(crate::specs::Turns::check_plus))]
 pub fn check_plus(block: &[f64], tangent: &[f64]) -> ElementAndVector
     ensures { result ≡ Turns.check_plus block.now tangent.now }
 {
@@ -47,6 +53,7 @@ pub fn check_plus(block: &[f64], tangent: &[f64]) -> ElementAndVector
     }
 }
 
+#[tactic(auto, unfolding(crate::specs::Turns::check_right_minus))]
 pub fn check_right_minus(left: &[f64], right: &[f64]) -> Elements
     ensures { result ≡ Turns.check_right_minus left.now right.now }
 {
@@ -56,6 +63,7 @@ pub fn check_right_minus(left: &[f64], right: &[f64]) -> Elements
     }
 }
 
+#[tactic(auto, unfolding(crate::specs::Turns::check_right_minus_jacobian))]
 pub fn check_right_minus_jacobian(left: &[f64], right: &[f64]) -> Elements
     ensures { result ≡ Turns.check_right_minus_jacobian left.now right.now }
 {
@@ -65,6 +73,7 @@ pub fn check_right_minus_jacobian(left: &[f64], right: &[f64]) -> Elements
     }
 }
 
+#[tactic(auto, unfolding(crate::specs::Turns::check_left_minus))]
 pub fn check_left_minus(left: &[f64], right: &[f64]) -> Elements
     ensures { result ≡ Turns.check_left_minus left.now right.now }
 {
@@ -74,6 +83,7 @@ pub fn check_left_minus(left: &[f64], right: &[f64]) -> Elements
     }
 }
 
+#[tactic(auto, unfolding(crate::specs::Turns::check_left_minus_jacobian))]
 pub fn check_left_minus_jacobian(left: &[f64], right: &[f64]) -> Elements
     ensures { result ≡ Turns.check_left_minus_jacobian left.now right.now }
 {

@@ -1,4 +1,6 @@
 // The outcome of a call, as bytes: little-endian words for the number, two figures, how many values follow, and their bits.
+#![tactic(auto)]
+
 ghost use Rattle.std.specs.Prelude.{◌≡◌, ◌+◌, ◌*◌, ◌≤◌, length};
 ghost use Rattle.std.proofs.lemmas.List.Edits.{sets};
 ghost use Rattle.checks.specs.Refusals as Refusals;
@@ -13,6 +15,7 @@ use sgal3_composition::Answer;
 use so3_answers::{ValidAnswer, VectorAnswer};
 
 // ---- Words
+#[tactic(auto, unfolding(crate::specs::Outcomes::first_figure, checks::specs::Refusals::figures))]
 fn first_figure(r: Refusal) -> u64
     ensures { result ≡ Outcomes.first_figure (Refusals.figures r) }
 {
@@ -28,6 +31,7 @@ fn first_figure(r: Refusal) -> u64
     }
 }
 
+#[tactic(auto, unfolding(crate::specs::Outcomes::second_figure, checks::specs::Refusals::figures))]
 fn second_figure(r: Refusal) -> u64
     ensures { result ≡ Outcomes.second_figure (Refusals.figures r) }
 {
@@ -61,6 +65,7 @@ fn put_four(out: &mut [u8], a: u64, b: u64, c: u64, d: u64)
 }
 
 // Before n values.
+#[tactic(auto, unfolding(crate::specs::Outcomes::header_of, crate::specs::Outcomes::header, crate::specs::Outcomes::first_figure, crate::specs::Outcomes::second_figure, checks::specs::Outcomes::outcome))]
 fn put_header(out: &mut [u8], c: Check, n: u64)
     requires { 32 ≤ length out.old }
     ensures { out.new ≡ sets out.old 0 (Outcomes.header_of c n) }
@@ -125,12 +130,14 @@ pub fn put_check(out: &mut [u8; 832], c: Check) -> usize
 }
 
 // A yes or no is a word.
+#[tactic(auto, unfolding(crate::specs::Outcomes::word_of))]
 fn word_of(b: bool) -> u64
     ensures { result ≡ Outcomes.word_of b }
 {
     if b { 1 } else { 0 }
 }
 
+#[tactic(auto, unfolding(crate::specs::Outcomes::of_valid, crate::specs::Outcomes::of_word, crate::specs::Outcomes::bytes, crate::specs::Outcomes::header, checks::specs::Outcomes::outcome, so3_answers::specs::Outcomes::valid))]
 pub fn put_valid(out: &mut [u8; 832], a: ValidAnswer) -> usize
     ensures { Outcomes.Put result out.old out.new (Outcomes.of_valid a) }
 {
@@ -148,6 +155,7 @@ fn put_word(out: &mut [u8; 832], n: u64) -> usize
     40
 }
 
+#[tactic(auto, unfolding(crate::specs::Outcomes::of_rotation, so3_answers::specs::Outcomes::element, crate::specs::Outcomes::of_check))]
 pub fn put_rotation(out: &mut [u8; 832], a: so3_answers::Answer) -> usize
     ensures { Outcomes.Put result out.old out.new (Outcomes.of_rotation a) }
 {
@@ -161,6 +169,7 @@ pub fn put_rotation(out: &mut [u8; 832], a: so3_answers::Answer) -> usize
     }
 }
 
+#[tactic(auto, unfolding(crate::specs::Outcomes::of_vector, so3_answers::specs::Outcomes::vector, crate::specs::Outcomes::of_check))]
 pub fn put_vector(out: &mut [u8; 832], a: VectorAnswer) -> usize
     ensures { Outcomes.Put result out.old out.new (Outcomes.of_vector a) }
 {
@@ -173,6 +182,7 @@ pub fn put_vector(out: &mut [u8; 832], a: VectorAnswer) -> usize
     }
 }
 
+#[tactic(auto, unfolding(crate::specs::Outcomes::of_rotation_tangent, so3_answers::specs::Outcomes::tangent, crate::specs::Outcomes::of_check))]
 pub fn put_rotation_tangent(out: &mut [u8; 832], a: so3_answers::TangentAnswer) -> usize
     ensures { Outcomes.Put result out.old out.new (Outcomes.of_rotation_tangent a) }
 {
@@ -186,6 +196,7 @@ pub fn put_rotation_tangent(out: &mut [u8; 832], a: so3_answers::TangentAnswer) 
     }
 }
 
+#[tactic(auto, unfolding(crate::specs::Outcomes::of_matrix3, so3_answers::specs::Outcomes::matrix))]
 pub fn put_matrix3(out: &mut [u8; 832], a: so3_answers::MatrixAnswer) -> usize
     ensures { Outcomes.Put result out.old out.new (Outcomes.of_matrix3 a) }
 {
@@ -198,6 +209,7 @@ pub fn put_matrix3(out: &mut [u8; 832], a: so3_answers::MatrixAnswer) -> usize
     put_outcome(out, c, &values)
 }
 
+#[tactic(auto, unfolding(crate::specs::Outcomes::of_element, sgal3_composition::specs::Outcomes::element, crate::specs::Outcomes::of_check))]
 pub fn put_element(out: &mut [u8; 832], a: Answer) -> usize
     ensures { Outcomes.Put result out.old out.new (Outcomes.of_element a) }
 {
@@ -210,6 +222,7 @@ pub fn put_element(out: &mut [u8; 832], a: Answer) -> usize
     }
 }
 
+#[tactic(auto, unfolding(crate::specs::Outcomes::of_tangent, sgal3_answers::specs::Outcomes::tangent, crate::specs::Outcomes::of_check))]
 pub fn put_tangent(out: &mut [u8; 832], a: sgal3_answers::TangentAnswer) -> usize
     ensures { Outcomes.Put result out.old out.new (Outcomes.of_tangent a) }
 {
@@ -222,6 +235,7 @@ pub fn put_tangent(out: &mut [u8; 832], a: sgal3_answers::TangentAnswer) -> usiz
     }
 }
 
+#[tactic(auto, unfolding(crate::specs::Outcomes::of_number, sgal3_answers::specs::Outcomes::number, crate::specs::Outcomes::of_check))]
 pub fn put_number(out: &mut [u8; 832], a: NumberAnswer) -> usize
     ensures { Outcomes.Put result out.old out.new (Outcomes.of_number a) }
 {

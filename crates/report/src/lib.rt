@@ -1,4 +1,6 @@
 // What the program `chain` prints, as a function on slices.
+#![tactic(auto)]
+
 ghost use Rattle.std.specs.Prelude.{◌≡◌, ◌≤◌, length};
 ghost use Rattle.std.proofs.lemmas.List.Edits.{sets};
 ghost use Rattle.report.specs.Text as Text;
@@ -20,6 +22,7 @@ fn put_answer(out: &mut [u8], answer: Answer) -> usize
 }
 
 // Puts what is printed for an input at the start of out, and answers how many bytes it is.
+#[tactic(auto, unfolding(crate::specs::Text::report_of))]
 pub fn report(input: &[u8], out: &mut [u8; 220]) -> usize
     ensures { Text.Written result out.new (Text.report_of input.now) }
 {

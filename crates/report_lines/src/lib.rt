@@ -1,4 +1,6 @@
 // The lines of a report, as bytes of a slice: one for each value, or the one of a refusal.
+#![tactic(auto)]
+
 ghost use Rattle.std.specs.Prelude.{◌≡◌, ◌+◌, ◌<◌, ◌≤◌, length};
 ghost use Rattle.std.proofs.lemmas.List.Edits.{sets};
 ghost use Rattle.report_lines.specs.Lines as Lines;

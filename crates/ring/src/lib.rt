@@ -1,1 +1,2 @@
 // Commutative rings: a normaliser of expressions, with its soundness. Laws alone, no code.
+#![tactic(auto)]

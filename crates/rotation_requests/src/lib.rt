@@ -1,9 +1,12 @@
 // A request on rotations answered: the calls 10 to 60 by their numbers, and the outcome of each as bytes. No bytes where there is no
 // such call.
+#![tactic(auto)]
+
 ghost use Rattle.outcomes.specs.Outcomes as Outcomes;
 ghost use Rattle.rotation_requests.specs.Requests as Requests;
 
 // A rotation, and two composed.
+#[tactic(auto, unfolding(crate::specs::Requests::rotation_call))]
 fn rotation_call(call: u64, left: &[f64], right: &[f64], extra: u64, out: &mut [u8; 832]) -> usize
     ensures { Outcomes.Put result out.old out.new (Requests.rotation_call call left.now right.now extra) }
 {
@@ -21,6 +24,7 @@ fn rotation_call(call: u64, left: &[f64], right: &[f64], extra: u64, out: &mut [
 }
 
 // The logarithm of a rotation, and what a rotation acts on.
+#[tactic(auto, unfolding(crate::specs::Requests::rotation_log_call))]
 fn rotation_log_call(
     call: u64,
     left: &[f64],
@@ -44,6 +48,7 @@ fn rotation_log_call(
 }
 
 // The exponential of a tangent of the rotations, and its Jacobians.
+#[tactic(auto, unfolding(crate::specs::Requests::rotation_exp_call))]
 fn rotation_exp_call(
     call: u64,
     left: &[f64],
@@ -65,6 +70,7 @@ fn rotation_exp_call(
 }
 
 // The algebra of the rotations, and what takes no block.
+#[tactic(auto, unfolding(crate::specs::Requests::rotation_tangent_call))]
 fn rotation_tangent_call(
     call: u64,
     left: &[f64],
@@ -94,6 +100,7 @@ fn rotation_tangent_call(
 }
 
 // Plus of a rotation and a tangent, from either side.
+#[tactic(auto, unfolding(crate::specs::Requests::rotation_plus_call))]
 fn rotation_plus_call(
     call: u64,
     left: &[f64],
@@ -127,6 +134,7 @@ fn rotation_plus_call(
 }
 
 // Minus of two rotations, from either side.
+#[tactic(auto, unfolding(crate::specs::Requests::rotation_minus_call))]
 fn rotation_minus_call(
     call: u64,
     left: &[f64],
@@ -160,6 +168,7 @@ fn rotation_minus_call(
 }
 
 // What leads from one rotation to another; plus and minus of rotations by their short names.
+#[tactic(auto, unfolding(crate::specs::Requests::rotation_between_call))]
 fn rotation_between_call(
     call: u64,
     left: &[f64],
@@ -187,6 +196,7 @@ fn rotation_between_call(
 }
 
 // Of four values: the one call that takes no block.
+#[tactic(auto, unfolding(crate::specs::Requests::quaternion_call))]
 fn quaternion_call(left: &[f64], out: &mut [u8; 832]) -> usize
     ensures { Outcomes.Put result out.old out.new (Requests.quaternion_call left.now) }
 {
@@ -199,6 +209,7 @@ fn quaternion_call(left: &[f64], out: &mut [u8; 832]) -> usize
     )
 }
 
+#[tactic(auto, unfolding(crate::specs::Requests::answer))]
 pub fn answer(call: u64, left: &[f64], right: &[f64], extra: u64, out: &mut [u8; 832]) -> usize
     ensures { Outcomes.Put result out.old out.new (Requests.answer call left.now right.now extra) }
 {

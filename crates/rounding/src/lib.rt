@@ -1,1 +1,2 @@
 // How far one rounded operation may be from the exact one: laws alone, no code.
+#![tactic(auto)]

@@ -1,5 +1,7 @@
 // The Galilean group SGal(3): elements and tangents by value (sgal3.rs). A block's quaternion is kept as given; rotation_impl
 // normalises it, and an operation of SO(3) on that once more.
+#![tactic(auto)]
+
 ghost use Rattle.std.specs.Prelude.{◌≡◌};
 ghost use Rattle.sgal3.specs.Elements as Elements;
 ghost use Rattle.sgal3.specs.Tangents as Tangents;
@@ -7,7 +9,7 @@ ghost use Rattle.sgal3.specs.Tangents as Tangents;
 use linear::{Mat3, Quaternion, Vec3};
 
 // A block's values in their order: translation, quaternion w, x, y, z, velocity, time.
-#[derive(Drop)]
+#[derive(Clone, Copy)]
 pub struct Element {
     pub translation: Vec3,
     pub rotation: Quaternion,
@@ -16,7 +18,7 @@ pub struct Element {
 }
 
 // A tangent's values in their order.
-#[derive(Drop)]
+#[derive(Clone, Copy)]
 pub struct Tangent {
     pub rho: Vec3,
     pub nu: Vec3,
@@ -25,6 +27,7 @@ pub struct Tangent {
 }
 
 impl Element {
+    #[tactic(auto, unfolding(crate::specs::Elements::identity, linear::specs::Vectors::zero, linear::specs::Quaternions::identity, law::specs::Galilean::identity))]
     pub fn identity() -> Element
         ensures { result ≡ Elements.identity }
     {
@@ -37,6 +40,7 @@ impl Element {
     }
 
     // The rotation, normalised once.
+    #[tactic(auto, unfolding(crate::specs::Elements::rotation_impl, so3::specs::Elements::from_quaternion_wxyz, law::specs::Galilean::rotation_impl, law::specs::Rotation::unit_quaternion))]
     pub fn rotation_impl(self) -> so3::Element
         ensures { result ≡ Elements.rotation_impl self }
     {
@@ -95,6 +99,7 @@ impl Element {
     }
 
     // Divides by the norm three times: rotation_impl once, SO(3)'s normalize twice.
+    #[tactic(auto, unfolding(crate::specs::Elements::normalize, crate::specs::Elements::rotation_impl, so3::specs::Elements::normalize, law::specs::Galilean::normalize))]
     pub fn normalize(self) -> Element
         ensures { result ≡ Elements.normalize self }
     {
@@ -121,6 +126,7 @@ impl Element {
     }
 
     // Sees the quaternion after rotation_impl has normalised it.
+    #[tactic(auto, unfolding(crate::specs::Elements::is_valid))]
     pub fn is_valid(self, tolerance: f64) -> bool
         ensures { result ≡ Elements.is_valid self tolerance }
     {
@@ -152,6 +158,7 @@ impl Element {
     }
 
     // The eleven values of a block.
+    #[tactic(auto, unfolding(crate::specs::Elements::coeffs))]
     pub fn coeffs(self) -> [f64; 11]
         ensures { result ≡ Elements.coeffs self }
     {
@@ -179,6 +186,7 @@ fn s_nu_coupling(theta: Vec3) -> Mat3
 }
 
 impl Tangent {
+    #[tactic(auto, unfolding(crate::specs::Tangents::zero, linear::specs::Vectors::zero))]
     pub fn zero() -> Tangent
         ensures { result ≡ Tangents.zero }
     {
@@ -214,6 +222,7 @@ impl Tangent {
     }
 
     // Theta is kept as it is where its norm is not above 2^-52.
+    #[tactic(auto, unfolding(crate::specs::Tangents::normalize))]
     pub fn normalize(self) -> Tangent
         ensures { result ≡ Tangents.normalize self }
     {
@@ -231,6 +240,7 @@ impl Tangent {
     }
 
     // Theta is made zero where its norm is not above 2^-52.
+    #[tactic(auto, unfolding(crate::specs::Tangents::normalized))]
     pub fn normalized(self) -> Tangent
         ensures { result ≡ Tangents.normalized self }
     {
@@ -248,6 +258,7 @@ impl Tangent {
     }
 
     // The ten values of a tangent.
+    #[tactic(auto, unfolding(crate::specs::Tangents::coeffs))]
     pub fn coeffs(self) -> [f64; 10]
         ensures { result ≡ Tangents.coeffs self }
     {

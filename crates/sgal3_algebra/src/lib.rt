@@ -1,5 +1,7 @@
 // The Lie algebra of the Galilean group (sgal3.rs): hat, small_adj, the bracket and the generators. Hat and the generators are 6 by 6,
 // listed by row; small_adj is ten rows of ten.
+#![tactic(auto)]
+
 ghost use Rattle.std.specs.Prelude.{◌≡◌};
 ghost use Rattle.sgal3_algebra.specs.Algebra as Algebra;
 
@@ -7,6 +9,7 @@ use linear::{Mat3, Vec3};
 use sgal3::Tangent;
 
 // The layout of the algebra: a matrix top left, rho in column 3, nu in column 4, s at (3,5).
+#[tactic(auto, unfolding(crate::specs::Algebra::lie_algebra, law::specs::Galilean::lie_algebra, law::specs::Rows::by_row, law::specs::Vector::zero))]
 fn lie_algebra(h: Mat3, rho: Vec3, nu: Vec3, s: f64) -> [f64; 36]
     ensures { result ≡ Algebra.lie_algebra h rho nu s }
 {
@@ -20,6 +23,7 @@ fn lie_algebra(h: Mat3, rho: Vec3, nu: Vec3, s: f64) -> [f64; 36]
     ]
 }
 
+#[tactic(auto, unfolding(crate::specs::Algebra::hat, crate::specs::Algebra::lie_algebra, linear::specs::Matrices::hat, law::specs::Galilean::hat))]
 pub fn hat(t: Tangent) -> [f64; 36]
     ensures { result ≡ Algebra.hat t }
 {
@@ -27,6 +31,7 @@ pub fn hat(t: Tangent) -> [f64; 36]
 }
 
 // -s I is nine products: where s is above zero its other six places hold -0.
+#[tactic(auto, unfolding(crate::specs::Algebra::small_adj, sgal3_rows::specs::TenRows::by_blocks, linear::specs::Matrices::hat, linear::specs::Matrices::identity, linear::specs::Matrices::scale, law::specs::Galilean::small_adj))]
 pub fn small_adj(t: Tangent) -> [[f64; 10]; 10]
     ensures { result ≡ Algebra.small_adj t }
 {
@@ -38,6 +43,7 @@ pub fn small_adj(t: Tangent) -> [[f64; 10]; 10]
     sgal3_rows::by_blocks(theta_skew, b, rho_skew, nu_skew, nu, 0.0)
 }
 
+#[tactic(auto, unfolding(crate::specs::Algebra::lie_bracket, sgal3_rows::specs::TenRows::apply, crate::specs::Algebra::small_adj, law::specs::Galilean::lie_bracket))]
 pub fn lie_bracket(t: Tangent, u: Tangent) -> Tangent
     ensures { result ≡ Algebra.lie_bracket t u }
 {
@@ -45,6 +51,7 @@ pub fn lie_bracket(t: Tangent, u: Tangent) -> Tangent
 }
 
 // The unit vector along axis i; zero from i = 3.
+#[tactic(auto, unfolding(crate::specs::Algebra::axis))]
 fn axis(i: usize) -> Vec3
     ensures { result ≡ Algebra.axis i }
 {
@@ -62,6 +69,7 @@ fn axis(i: usize) -> Vec3
 }
 
 // The generator of place i of a tangent; the zero matrix from i = 10.
+#[tactic(auto, unfolding(crate::specs::Algebra::generator))]
 pub fn generator(i: usize) -> [f64; 36]
     ensures { result ≡ Algebra.generator i }
 {

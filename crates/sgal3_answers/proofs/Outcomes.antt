@@ -7,7 +7,7 @@ use lib.Ieee.{Float}
 use lib.Ieee.Scale.{finite}
 use Rattle.law.specs.Rounded.{rounded}
 use Rattle.checks.specs.Checks.{all_finite}
-use Rattle.checks.specs.Outcomes.{outcome, result}
+use Rattle.checks.specs.Outcomes.{result}
 use Rattle.checks.specs.declared.Refusal.TheVariants.{Overflow}
 use Rattle.checks.specs.declared.Check.TheVariants.{Passed}
 use Rattle.checks.proofs.Outcomes.{one_of}

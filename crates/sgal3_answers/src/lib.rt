@@ -1,4 +1,6 @@
 // What a Galilean call answers, but for an element: a tangent, a number, an element's eleven values, a matrix, or the refusal.
+#![tactic(auto)]
+
 ghost use Rattle.std.specs.Prelude.{◌≡◌};
 ghost use Rattle.checks.specs.Checks as Checks;
 ghost use Rattle.sgal3_answers.specs.Answers as Answers;
@@ -8,26 +10,27 @@ use checks::{Check, Refusal};
 use sgal3::{Element, Tangent};
 
 // ---- Tangents, numbers, the values of an element
-#[derive(Drop)]
+#[derive(Clone, Copy)]
 pub enum TangentAnswer {
     Done(Tangent),
     Refused(Refusal),
 }
 
-#[derive(Drop)]
+#[derive(Clone, Copy)]
 pub enum NumberAnswer {
     Done(f64),
     Refused(Refusal),
 }
 
 // The values are all +0 on a refusal.
-#[derive(Drop)]
+#[derive(Clone, Copy)]
 pub struct CoeffsAnswer {
     pub outcome: Check,
     pub values: [f64; 11],
 }
 
 // An answer whose values are finite, or the refusal.
+#[tactic(auto, unfolding(crate::specs::Answers::tangent_answer))]
 pub fn tangent_answer(t: Tangent) -> TangentAnswer
     ensures { result ≡ Answers.tangent_answer t }
 {
@@ -39,6 +42,7 @@ pub fn tangent_answer(t: Tangent) -> TangentAnswer
     }
 }
 
+#[tactic(auto, unfolding(crate::specs::Answers::coeffs_answer))]
 pub fn coeffs_answer(a: Element) -> CoeffsAnswer
     ensures { result ≡ Answers.coeffs_answer a }
 {
@@ -49,6 +53,7 @@ pub fn coeffs_answer(a: Element) -> CoeffsAnswer
     }
 }
 
+#[tactic(auto, unfolding(crate::specs::Answers::refused_coeffs))]
 pub fn refused_coeffs(r: Refusal) -> CoeffsAnswer
     ensures { result ≡ Answers.refused_coeffs r }
 {
@@ -60,33 +65,33 @@ pub fn refused_coeffs(r: Refusal) -> CoeffsAnswer
 }
 
 // ---- Matrices: the values are all +0 on a refusal
-#[derive(Drop)]
+#[derive(Clone, Copy)]
 pub struct Row10 {
     pub values: [f64; 10],
 }
 
-#[derive(Drop)]
+#[derive(Clone, Copy)]
 pub struct Matrix10Answer {
     pub outcome: Check,
     pub rows: [Row10; 10],
 }
 
 // The 5 by 5 matrix of an element, by row.
-#[derive(Drop)]
+#[derive(Clone, Copy)]
 pub struct MatrixAnswer {
     pub outcome: Check,
     pub values: [f64; 25],
 }
 
 // The 6 by 6 matrix of a tangent, by row.
-#[derive(Drop)]
+#[derive(Clone, Copy)]
 pub struct HatAnswer {
     pub outcome: Check,
     pub values: [f64; 36],
 }
 
 // Three rows of ten, by row.
-#[derive(Drop)]
+#[derive(Clone, Copy)]
 pub struct ActJacobianAnswer {
     pub outcome: Check,
     pub values: [f64; 30],
@@ -114,6 +119,7 @@ fn rows_of(m: [[f64; 10]; 10]) -> [Row10; 10]
     [r0, r1, r2, r3, r4, r5, r6, r7, r8, r9]
 }
 
+#[tactic(auto, unfolding(crate::specs::Matrices::zero_rows))]
 fn zero_rows() -> [Row10; 10]
     ensures { result ≡ Matrices.zero_rows }
 {
@@ -122,6 +128,7 @@ fn zero_rows() -> [Row10; 10]
     [zero; 10]
 }
 
+#[tactic(auto, unfolding(crate::specs::Matrices::refused_matrix10))]
 pub fn refused_matrix10(r: Refusal) -> Matrix10Answer
     ensures { result ≡ Matrices.refused_matrix10 r }
 {
@@ -152,6 +159,7 @@ fn finite_matrix(m: [[f64; 10]; 10]) -> bool
 }
 
 // An answer whose values are finite, or the refusal; as are the three below.
+#[tactic(auto, unfolding(crate::specs::Matrices::matrix10_answer, crate::specs::Matrices::answer_of_rows))]
 pub fn matrix10_answer(m: [[f64; 10]; 10]) -> Matrix10Answer
     ensures { result ≡ Matrices.matrix10_answer m }
 {
@@ -166,6 +174,7 @@ pub fn matrix10_answer(m: [[f64; 10]; 10]) -> Matrix10Answer
     }
 }
 
+#[tactic(auto, unfolding(crate::specs::Matrices::refused_matrix))]
 pub fn refused_matrix(r: Refusal) -> MatrixAnswer
     ensures { result ≡ Matrices.refused_matrix r }
 {
@@ -176,6 +185,7 @@ pub fn refused_matrix(r: Refusal) -> MatrixAnswer
     }
 }
 
+#[tactic(auto, unfolding(crate::specs::Matrices::matrix_answer))]
 pub fn matrix_answer(values: [f64; 25]) -> MatrixAnswer
     ensures { result ≡ Matrices.matrix_answer values }
 {
@@ -189,6 +199,7 @@ pub fn matrix_answer(values: [f64; 25]) -> MatrixAnswer
     }
 }
 
+#[tactic(auto, unfolding(crate::specs::Matrices::refused_hat))]
 pub fn refused_hat(r: Refusal) -> HatAnswer
     ensures { result ≡ Matrices.refused_hat r }
 {
@@ -199,6 +210,7 @@ pub fn refused_hat(r: Refusal) -> HatAnswer
     }
 }
 
+#[tactic(auto, unfolding(crate::specs::Matrices::hat_answer))]
 pub fn hat_answer(values: [f64; 36]) -> HatAnswer
     ensures { result ≡ Matrices.hat_answer values }
 {
@@ -212,6 +224,7 @@ pub fn hat_answer(values: [f64; 36]) -> HatAnswer
     }
 }
 
+#[tactic(auto, unfolding(crate::specs::Matrices::refused_act_jacobian))]
 pub fn refused_act_jacobian(r: Refusal) -> ActJacobianAnswer
     ensures { result ≡ Matrices.refused_act_jacobian r }
 {
@@ -222,6 +235,7 @@ pub fn refused_act_jacobian(r: Refusal) -> ActJacobianAnswer
     }
 }
 
+#[tactic(auto, unfolding(crate::specs::Matrices::act_jacobian_answer))]
 pub fn act_jacobian_answer(values: [f64; 30]) -> ActJacobianAnswer
     ensures { result ≡ Matrices.act_jacobian_answer values }
 {

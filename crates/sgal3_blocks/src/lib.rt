@@ -1,5 +1,7 @@
 // The other calls of the Galilean group (sgal3.rs) on blocks: an element's eleven values, a tangent's ten, a vector's three. Each
 // refuses, or answers with the operation of `sgal3` of the same name.
+#![tactic(auto)]
+
 ghost use Rattle.std.specs.Prelude.{◌≡◌};
 ghost use Rattle.sgal3_blocks.specs.Calls as Calls;
 
@@ -8,6 +10,7 @@ use sgal3_composition::Answer;
 use sgal3_inputs::{ElementAndVector, Tangents};
 use so3_answers::{MatrixAnswer, ValidAnswer, VectorAnswer};
 
+#[tactic(auto, unfolding(crate::specs::Calls::translation))]
 pub fn translation(block: &[f64]) -> VectorAnswer
     ensures { result ≡ Calls.translation block.now }
 {
@@ -17,6 +20,7 @@ pub fn translation(block: &[f64]) -> VectorAnswer
     }
 }
 
+#[tactic(auto, unfolding(crate::specs::Calls::velocity))]
 pub fn velocity(block: &[f64]) -> VectorAnswer
     ensures { result ≡ Calls.velocity block.now }
 {
@@ -26,6 +30,7 @@ pub fn velocity(block: &[f64]) -> VectorAnswer
     }
 }
 
+#[tactic(auto, unfolding(crate::specs::Calls::time))]
 pub fn time(block: &[f64]) -> NumberAnswer
     ensures { result ≡ Calls.time block.now }
 {
@@ -36,6 +41,7 @@ pub fn time(block: &[f64]) -> NumberAnswer
 }
 
 // As a rotation whose params it is.
+#[tactic(auto, unfolding(crate::specs::Calls::rotation_quaternion))]
 pub fn rotation_quaternion(block: &[f64]) -> so3_answers::Answer
     ensures { result ≡ Calls.rotation_quaternion block.now }
 {
@@ -45,6 +51,7 @@ pub fn rotation_quaternion(block: &[f64]) -> so3_answers::Answer
     }
 }
 
+#[tactic(auto, unfolding(crate::specs::Calls::rotation_matrix))]
 pub fn rotation_matrix(block: &[f64]) -> MatrixAnswer
     ensures { result ≡ Calls.rotation_matrix block.now }
 {
@@ -55,6 +62,7 @@ pub fn rotation_matrix(block: &[f64]) -> MatrixAnswer
 }
 
 // The eleven values, as given.
+#[tactic(auto, unfolding(crate::specs::Calls::coeffs))]
 pub fn coeffs(block: &[f64]) -> CoeffsAnswer
     ensures { result ≡ Calls.coeffs block.now }
 {
@@ -64,6 +72,7 @@ pub fn coeffs(block: &[f64]) -> CoeffsAnswer
     }
 }
 
+#[tactic(auto, unfolding(crate::specs::Calls::log))]
 pub fn log(block: &[f64]) -> TangentAnswer
     ensures { result ≡ Calls.log block.now }
 {
@@ -80,6 +89,7 @@ pub fn vee(block: &[f64]) -> TangentAnswer
     log(block)
 }
 
+#[tactic(auto, unfolding(crate::specs::Calls::act))]
 pub fn act(block: &[f64], vector: &[f64]) -> VectorAnswer
     ensures { result ≡ Calls.act block.now vector.now }
 {
@@ -90,6 +100,7 @@ pub fn act(block: &[f64], vector: &[f64]) -> VectorAnswer
 }
 
 // Of act with respect to the vector.
+#[tactic(auto, unfolding(crate::specs::Calls::act_jacobian_vector))]
 pub fn act_jacobian_vector(block: &[f64], vector: &[f64]) -> MatrixAnswer
     ensures { result ≡ Calls.act_jacobian_vector block.now vector.now }
 {
@@ -99,6 +110,7 @@ pub fn act_jacobian_vector(block: &[f64], vector: &[f64]) -> MatrixAnswer
     }
 }
 
+#[tactic(auto, unfolding(crate::specs::Calls::normalize))]
 pub fn normalize(block: &[f64]) -> Answer
     ensures { result ≡ Calls.normalize block.now }
 {
@@ -109,6 +121,7 @@ pub fn normalize(block: &[f64]) -> Answer
 }
 
 // Any eleven values, and any tolerance: refuses a wrong length only.
+#[tactic(auto, unfolding(crate::specs::Calls::is_valid))]
 pub fn is_valid(block: &[f64], tolerance: f64) -> ValidAnswer
     ensures { result ≡ Calls.is_valid block.now tolerance }
 {
@@ -118,6 +131,7 @@ pub fn is_valid(block: &[f64], tolerance: f64) -> ValidAnswer
     }
 }
 
+#[tactic(auto, unfolding(crate::specs::Calls::exp))]
 pub fn exp(tangent: &[f64]) -> Answer
     ensures { result ≡ Calls.exp tangent.now }
 {
@@ -127,6 +141,7 @@ pub fn exp(tangent: &[f64]) -> Answer
     }
 }
 
+#[tactic(auto, unfolding(crate::specs::Calls::lie_bracket))]
 pub fn lie_bracket(left: &[f64], right: &[f64]) -> TangentAnswer
     ensures { result ≡ Calls.lie_bracket left.now right.now }
 {
@@ -136,6 +151,7 @@ pub fn lie_bracket(left: &[f64], right: &[f64]) -> TangentAnswer
     }
 }
 
+#[tactic(auto, unfolding(crate::specs::Calls::normalize_tangent))]
 pub fn normalize_tangent(tangent: &[f64]) -> TangentAnswer
     ensures { result ≡ Calls.normalize_tangent tangent.now }
 {
@@ -145,6 +161,7 @@ pub fn normalize_tangent(tangent: &[f64]) -> TangentAnswer
     }
 }
 
+#[tactic(auto, unfolding(crate::specs::Calls::normalized_tangent))]
 pub fn normalized_tangent(tangent: &[f64]) -> TangentAnswer
     ensures { result ≡ Calls.normalized_tangent tangent.now }
 {

@@ -86,6 +86,10 @@ at_most Overflow = lit< tt
 literal : (r : Refusal) (rs : List Refusal) → by_number 5 1 (r ∷ rs) r ≡ earliest r rs
 literal r rs = literal-order 5 1 r rs r (at_least (earliest r rs)) (lt_of_le_of_lt (earliest-le r rs) (at_most r))
 
+below : (n : ℕ) → number Overflow ≤ n → n < 5 → ⊥
+unfolding number
+below n l h = omega arith
+
 -- an overflow gives way to any block's refusal
 overflow : (rs : List Refusal) (os : List Answer) → refusals os ≡ rs → All os → Refused (earliest Overflow rs) ≡ unless_refused rs (Refused Overflow)
 unfolding earliest unless_refused
@@ -101,10 +105,7 @@ overflow (r ∷ rs) os e h = ap Refused (gives (picked Overflow r) (first os e h
     first (Refused q ∷ os) e h = let p : q ≡ r = (unfold refusals in cc) in subst (λ (x : Refusal). number x < 5) p h.0
 
     gives : Picked Overflow r → number r < 5 → earliest (earlier Overflow r) rs ≡ earliest r rs
-    gives (left l e) h = absurd (never (number r) l h)
-      where
-        never : (n : ℕ) → number Overflow ≤ n → n < 5 → ⊥
-        never n l h = unfold number in omega arith
+    gives (left l e) h = absurd (below (number r) l h)
     gives (right l e) h = ap (λ (x : Refusal). earliest x rs) e
 
 -- ---- the fold is the paper's order

@@ -1,4 +1,6 @@
 // The calls of the Galilean group that the handset makes, on blocks of eleven values: compose, inverse and the chain (sgal3.rs).
+#![tactic(auto)]
+
 ghost use Rattle.std.specs.Prelude.{◌≡◌, ◌/◌, length};
 ghost use Rattle.checks.specs.Checks.{all_finite};
 ghost use Rattle.sgal3.specs.Elements as Elements;
@@ -9,7 +11,7 @@ use linear::{Quaternion, Vec3};
 use sgal3::Element;
 
 // What a call answers.
-#[derive(Drop)]
+#[derive(Clone, Copy)]
 pub enum Answer {
     Done(Element),
     Refused(Refusal),
@@ -33,6 +35,7 @@ fn is_finite(a: Element) -> bool
 }
 
 // An answer whose values are finite, or the refusal.
+#[tactic(auto, unfolding(crate::specs::Calls::element_answer))]
 pub fn element_answer(a: Element) -> Answer
     ensures { result ≡ Calls.element_answer a }
 {
@@ -43,6 +46,7 @@ pub fn element_answer(a: Element) -> Answer
     }
 }
 
+#[tactic(auto, unfolding(sgal3::specs::Elements::element_of))]
 pub fn element_of(s: &[f64]) -> Element
     requires { length s.now ≡ 11 }
     ensures { result ≡ Elements.element_of s.now }
@@ -69,6 +73,7 @@ pub fn element_of(s: &[f64]) -> Element
 }
 
 // The element of any eleven values: refuses a wrong length only.
+#[tactic(auto, unfolding(crate::specs::Calls::from_param_slice))]
 pub fn from_param_slice(block: &[f64]) -> Answer
     ensures { result ≡ Calls.from_param_slice block.now }
 {
@@ -83,6 +88,7 @@ pub fn from_param_slice(block: &[f64]) -> Answer
 }
 
 // The element of a block, or why it is refused.
+#[tactic(auto, unfolding(crate::specs::Calls::check_element))]
 pub fn check_element(block: &[f64], tolerance: f64) -> Answer
     ensures { result ≡ Calls.check_element block.now tolerance }
 {
@@ -93,6 +99,7 @@ pub fn check_element(block: &[f64], tolerance: f64) -> Answer
 }
 
 // Of two answers, of which one at least is refused, the refusal that is tried first.
+#[tactic(auto, unfolding(crate::specs::Calls::first_refusal))]
 fn first_refusal(left: Answer, right: Answer) -> Answer
     ensures { result ≡ Calls.first_refusal left right }
 {
@@ -106,6 +113,7 @@ fn first_refusal(left: Answer, right: Answer) -> Answer
 }
 
 // Composes the answers of two blocks, or of a chain so far and a block.
+#[tactic(auto, unfolding(crate::specs::Calls::compose_answers, crate::specs::Calls::first_refusal))]
 pub fn compose_answers(left: Answer, right: Answer) -> Answer
     ensures { result ≡ Calls.compose_answers left right }
 {
@@ -118,6 +126,7 @@ pub fn compose_answers(left: Answer, right: Answer) -> Answer
     element_answer(a.compose(b))
 }
 
+#[tactic(auto, unfolding(crate::specs::Calls::inverse_answer))]
 pub fn inverse_answer(block: Answer) -> Answer
     ensures { result ≡ Calls.inverse_answer block }
 {
@@ -127,6 +136,7 @@ pub fn inverse_answer(block: Answer) -> Answer
     element_answer(a.inverse())
 }
 
+#[tactic(auto, unfolding(crate::specs::Calls::compose))]
 pub fn compose(left: &[f64], right: &[f64]) -> Answer
     ensures value { result ≡ Calls.compose left.now right.now }
     ensures binary64 { Calls.Binary64 right.now }
@@ -137,6 +147,7 @@ pub fn compose(left: &[f64], right: &[f64]) -> Answer
     )
 }
 
+#[tactic(auto, unfolding(crate::specs::Calls::inverse))]
 pub fn inverse(block: &[f64]) -> Answer
     ensures { result ≡ Calls.inverse block.now }
 {
@@ -161,6 +172,7 @@ fn chain_blocks(s: &[f64]) -> Answer
 }
 
 // Up to 4,096 blocks, laid end to end.
+#[tactic(auto, unfolding(crate::specs::Calls::chain))]
 pub fn chain(blocks: &[f64]) -> Answer
     ensures value { result ≡ Calls.chain blocks.now }
     ensures binary64 { Calls.Binary64 blocks.now }

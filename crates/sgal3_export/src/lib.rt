@@ -1,4 +1,6 @@
 // exp, log and adjoint for C and Rust, to be timed there: a call on a block of values, and its outcome as bytes.
+#![tactic(auto)]
+
 ghost use Rattle.outcomes.specs.Outcomes as Outcomes;
 ghost use Rattle.sgal3_blocks.specs.Calls as Calls;
 ghost use Rattle.sgal3_matrix_blocks.specs.Calls as Matrices;

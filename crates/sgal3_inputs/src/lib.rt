@@ -1,5 +1,7 @@
 // What the check of a Galilean call's blocks gives: an element's eleven values, a tangent's ten, a vector's three, or the refusal 1 to 3
 // that is tried first.
+#![tactic(auto)]
+
 ghost use Rattle.std.specs.Prelude.{◌≡◌, length};
 ghost use Rattle.sgal3.specs.Tangents as Galilean;
 ghost use Rattle.sgal3_inputs.specs.Inputs as Inputs;
@@ -10,30 +12,31 @@ use sgal3::{Element, Tangent};
 use sgal3_answers::TangentAnswer;
 use sgal3_composition::Answer;
 
-#[derive(Drop)]
+#[derive(Clone, Copy)]
 pub enum Elements {
     Done(Element, Element),
     Refused(Refusal),
 }
 
-#[derive(Drop)]
+#[derive(Clone, Copy)]
 pub enum ElementAndVector {
     Done(Element, Vec3),
     Refused(Refusal),
 }
 
-#[derive(Drop)]
+#[derive(Clone, Copy)]
 pub enum ElementAndTangent {
     Done(Element, Tangent),
     Refused(Refusal),
 }
 
-#[derive(Drop)]
+#[derive(Clone, Copy)]
 pub enum Tangents {
     Done(Tangent, Tangent),
     Refused(Refusal),
 }
 
+#[tactic(auto, unfolding(crate::specs::Inputs::check_element, sgal3_composition::specs::Calls::check_element, checks::specs::Checks::validate_sgal3_params))]
 pub fn check_element(block: &[f64]) -> Answer
     ensures { result ≡ Inputs.check_element block.now }
 {
@@ -43,6 +46,7 @@ pub fn check_element(block: &[f64]) -> Answer
     }
 }
 
+#[tactic(auto, unfolding(sgal3::specs::Tangents::tangent_of))]
 fn tangent_of(s: &[f64]) -> Tangent
     requires { length s.now ≡ 10 }
     ensures { result ≡ Galilean.tangent_of s.now }
@@ -67,6 +71,7 @@ fn tangent_of(s: &[f64]) -> Tangent
     }
 }
 
+#[tactic(auto, unfolding(crate::specs::Inputs::check_tangent))]
 pub fn check_tangent(tangent: &[f64]) -> TangentAnswer
     ensures { result ≡ Inputs.check_tangent tangent.now }
 {
@@ -76,6 +81,7 @@ pub fn check_tangent(tangent: &[f64]) -> TangentAnswer
     }
 }
 
+#[tactic(auto, unfolding(crate::specs::Inputs::check_elements))]
 pub fn check_elements(left: &[f64], right: &[f64]) -> Elements
     ensures { result ≡ Inputs.check_elements left.now right.now }
 {
@@ -91,6 +97,7 @@ pub fn check_elements(left: &[f64], right: &[f64]) -> Elements
     }
 }
 
+#[tactic(auto, unfolding(crate::specs::Inputs::check_element_and_vector))]
 pub fn check_element_and_vector(block: &[f64], vector: &[f64]) -> ElementAndVector
     ensures { result ≡ Inputs.check_element_and_vector block.now vector.now }
 {
@@ -106,6 +113,7 @@ pub fn check_element_and_vector(block: &[f64], vector: &[f64]) -> ElementAndVect
     }
 }
 
+#[tactic(auto, unfolding(crate::specs::Inputs::check_element_and_tangent))]
 pub fn check_element_and_tangent(block: &[f64], tangent: &[f64]) -> ElementAndTangent
     ensures { result ≡ Inputs.check_element_and_tangent block.now tangent.now }
 {
@@ -121,6 +129,7 @@ pub fn check_element_and_tangent(block: &[f64], tangent: &[f64]) -> ElementAndTa
     }
 }
 
+#[tactic(auto, unfolding(crate::specs::Inputs::check_tangents))]
 pub fn check_tangents(left: &[f64], right: &[f64]) -> Tangents
     ensures { result ≡ Inputs.check_tangents left.now right.now }
 {

@@ -1,5 +1,7 @@
 // The matrices of an element of the Galilean group (sgal3.rs): the 5 by 5 matrix, the adjoint and the Jacobians. A 10 by 10 matrix is
 // ten rows of ten; the others are listed by row.
+#![tactic(auto)]
+
 ghost use Rattle.std.specs.Prelude.{◌≡◌};
 ghost use Rattle.sgal3_matrices.specs.Matrices as Matrices;
 
@@ -7,6 +9,7 @@ use linear::{Mat3, Vec3};
 use sgal3::Element;
 
 // Velocity in column 3, translation in column 4.
+#[tactic(auto, unfolding(crate::specs::Matrices::matrix, sgal3::specs::Elements::rotation_matrix, law::specs::Galilean::matrix, law::specs::Galilean::matrix_at, law::specs::Galilean::row5, law::specs::Galilean::rotation_matrix, law::specs::Rotation::rotation_matrix, law::specs::Rows::by_row, law::specs::Vector::zero))]
 pub fn matrix(a: Element) -> [f64; 25]
     ensures { result ≡ Matrices.matrix a }
 {
@@ -33,6 +36,7 @@ pub fn adjoint(a: Element) -> [[f64; 10]; 10]
     sgal3_rows::by_blocks(r, b, c, nu_skew.mul(r), v, 1.0)
 }
 
+#[tactic(auto, unfolding(crate::specs::Matrices::jacobian_identity, sgal3_rows::specs::TenRows::by_blocks, linear::specs::Matrices::identity, linear::specs::Vectors::zero, law::specs::Galilean::jacobian_identity))]
 pub fn jacobian_identity() -> [[f64; 10]; 10]
     ensures { result ≡ Matrices.jacobian_identity }
 {
@@ -46,6 +50,7 @@ pub fn jacobian_identity() -> [[f64; 10]; 10]
 }
 
 // The adjoint is negated after it is filled.
+#[tactic(auto, unfolding(crate::specs::Matrices::inverse_jacobian, sgal3_rows::specs::TenRows::neg, crate::specs::Matrices::adjoint, law::specs::Galilean::inverse_jacobian))]
 pub fn inverse_jacobian(a: Element) -> [[f64; 10]; 10]
     ensures { result ≡ Matrices.inverse_jacobian a }
 {
@@ -53,6 +58,7 @@ pub fn inverse_jacobian(a: Element) -> [[f64; 10]; 10]
 }
 
 // Of a.compose(b) with respect to a; with respect to b it is the identity.
+#[tactic(auto, unfolding(crate::specs::Matrices::compose_jacobian_self, crate::specs::Matrices::adjoint, sgal3::specs::Elements::inverse, law::specs::Galilean::compose_jacobian_self))]
 pub fn compose_jacobian_self(a: Element, b: Element) -> [[f64; 10]; 10]
     ensures { result ≡ Matrices.compose_jacobian_self a b }
 {

@@ -1,5 +1,7 @@
 // The calls of the Galilean group that answer with a matrix (sgal3.rs). Each refuses, or answers with the operation of
 // `sgal3_matrices` or `sgal3_algebra` of the same name.
+#![tactic(auto)]
+
 ghost use Rattle.std.specs.Prelude.{◌≡◌};
 ghost use Rattle.sgal3_matrix_blocks.specs.Calls as Calls;
 
@@ -7,6 +9,7 @@ use sgal3_answers::{ActJacobianAnswer, HatAnswer, Matrix10Answer, MatrixAnswer, 
 use sgal3_composition::Answer;
 use sgal3_inputs::{ElementAndVector, Elements};
 
+#[tactic(auto, unfolding(crate::specs::Calls::matrix))]
 pub fn matrix(block: &[f64]) -> MatrixAnswer
     ensures { result ≡ Calls.matrix block.now }
 {
@@ -16,6 +19,7 @@ pub fn matrix(block: &[f64]) -> MatrixAnswer
     }
 }
 
+#[tactic(auto, unfolding(crate::specs::Calls::adjoint))]
 pub fn adjoint(block: &[f64]) -> Matrix10Answer
     ensures { result ≡ Calls.adjoint block.now }
 {
@@ -25,6 +29,7 @@ pub fn adjoint(block: &[f64]) -> Matrix10Answer
     }
 }
 
+#[tactic(auto, unfolding(crate::specs::Calls::inverse_jacobian))]
 pub fn inverse_jacobian(block: &[f64]) -> Matrix10Answer
     ensures { result ≡ Calls.inverse_jacobian block.now }
 {
@@ -35,6 +40,7 @@ pub fn inverse_jacobian(block: &[f64]) -> Matrix10Answer
 }
 
 // Of compose with respect to its left operand.
+#[tactic(auto, unfolding(crate::specs::Calls::compose_jacobian_self))]
 pub fn compose_jacobian_self(left: &[f64], right: &[f64]) -> Matrix10Answer
     ensures { result ≡ Calls.compose_jacobian_self left.now right.now }
 {
@@ -47,6 +53,7 @@ pub fn compose_jacobian_self(left: &[f64], right: &[f64]) -> Matrix10Answer
 }
 
 // Of compose with respect to its right operand.
+#[tactic(auto, unfolding(crate::specs::Calls::compose_jacobian_other))]
 pub fn compose_jacobian_other(left: &[f64], right: &[f64]) -> Matrix10Answer
     ensures { result ≡ Calls.compose_jacobian_other left.now right.now }
 {
@@ -57,6 +64,7 @@ pub fn compose_jacobian_other(left: &[f64], right: &[f64]) -> Matrix10Answer
 }
 
 // Of act with respect to the element.
+#[tactic(auto, unfolding(crate::specs::Calls::act_jacobian_self))]
 pub fn act_jacobian_self(block: &[f64], vector: &[f64]) -> ActJacobianAnswer
     ensures { result ≡ Calls.act_jacobian_self block.now vector.now }
 {
@@ -68,6 +76,7 @@ pub fn act_jacobian_self(block: &[f64], vector: &[f64]) -> ActJacobianAnswer
     }
 }
 
+#[tactic(auto, unfolding(crate::specs::Calls::hat))]
 pub fn hat(tangent: &[f64]) -> HatAnswer
     ensures { result ≡ Calls.hat tangent.now }
 {
@@ -77,6 +86,7 @@ pub fn hat(tangent: &[f64]) -> HatAnswer
     }
 }
 
+#[tactic(auto, unfolding(crate::specs::Calls::small_adj))]
 pub fn small_adj(tangent: &[f64]) -> Matrix10Answer
     ensures { result ≡ Calls.small_adj tangent.now }
 {

@@ -1,10 +1,13 @@
 // Matrices of ten rows of ten for the Galilean group: their layout by blocks, negation, a matrix times a tangent.
+#![tactic(auto)]
+
 ghost use Rattle.std.specs.Prelude.{◌≡◌};
 ghost use Rattle.sgal3_rows.specs.TenRows as TenRows;
 
 use linear::{Mat3, Vec3};
 use sgal3::Tangent;
 
+#[tactic(auto, unfolding(crate::specs::TenRows::row10, law::specs::Galilean::row10))]
 fn row10(a: Vec3, b: Vec3, c: Vec3, k: f64) -> [f64; 10]
     ensures { result ≡ TenRows.row10 a b c k }
 {
@@ -12,6 +15,7 @@ fn row10(a: Vec3, b: Vec3, c: Vec3, k: f64) -> [f64; 10]
 }
 
 // The layout of a 10 by 10 matrix: [r, b, c, u]; [0, r, d, 0]; [0, 0, r, 0]; the last row zero but for a final k.
+#[tactic(auto, unfolding(crate::specs::TenRows::by_blocks, crate::specs::TenRows::row10, linear::specs::Vectors::zero, law::specs::Galilean::by_blocks))]
 pub fn by_blocks(r: Mat3, b: Mat3, c: Mat3, d: Mat3, u: Vec3, k: f64) -> [[f64; 10]; 10]
     ensures { result ≡ TenRows.by_blocks r b c d u k }
 {
@@ -29,6 +33,7 @@ pub fn by_blocks(r: Mat3, b: Mat3, c: Mat3, d: Mat3, u: Vec3, k: f64) -> [[f64; 
     [m0, m1, m2, m3, m4, m5, m6, m7, m8, m9]
 }
 
+#[tactic(auto, unfolding(crate::specs::TenRows::neg_row))]
 fn neg_row(r: [f64; 10]) -> [f64; 10]
     ensures { result ≡ TenRows.neg_row r }
 {
@@ -38,6 +43,7 @@ fn neg_row(r: [f64; 10]) -> [f64; 10]
 }
 
 // Every place is negated, the empty ones to -0.
+#[tactic(auto, unfolding(crate::specs::TenRows::neg, crate::specs::TenRows::neg_row, law::specs::Rows::neg))]
 pub fn neg(m: [[f64; 10]; 10]) -> [[f64; 10]; 10]
     ensures { result ≡ TenRows.neg m }
 {
@@ -55,6 +61,7 @@ pub fn neg(m: [[f64; 10]; 10]) -> [[f64; 10]; 10]
 }
 
 // A row times a tangent: the first product first, the others added to it from the left.
+#[tactic(auto, unfolding(crate::specs::TenRows::dot, law::specs::Rows::dot, law::specs::Galilean::coeffs, law::specs::Galilean::row10))]
 fn dot(r: [f64; 10], t: Tangent) -> f64
     ensures { result ≡ TenRows.dot r t }
 {
@@ -73,6 +80,7 @@ fn dot(r: [f64; 10], t: Tangent) -> f64
         + r[9] * t.s
 }
 
+#[tactic(auto, unfolding(crate::specs::TenRows::apply, crate::specs::TenRows::dot, law::specs::Galilean::apply_tangent, law::specs::Galilean::tangent, law::specs::Rows::apply))]
 pub fn apply(m: [[f64; 10]; 10], t: Tangent) -> Tangent
     ensures { result ≡ TenRows.apply m t }
 {

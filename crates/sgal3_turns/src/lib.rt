@@ -1,4 +1,6 @@
 // Where the Galilean exp or log would leave its series branch: the refusal 4.
+#![tactic(auto)]
+
 ghost use Rattle.std.specs.Prelude.{◌≡◌};
 ghost use Rattle.sgal3_turns.specs.Turns as Turns;
 
@@ -7,6 +9,7 @@ use sgal3_answers::TangentAnswer;
 use sgal3_composition::Answer;
 
 // Log tests the half angle, and the squared theta of its own answer.
+#[tactic(auto, unfolding(crate::specs::Turns::within_log))]
 pub fn within_log(a: Element) -> Answer
     ensures { result ≡ Turns.within_log a }
 {
@@ -17,6 +20,7 @@ pub fn within_log(a: Element) -> Answer
 }
 
 // Exp tests the squared theta.
+#[tactic(auto, unfolding(crate::specs::Turns::within_exp))]
 pub fn within_exp(t: Tangent) -> TangentAnswer
     ensures { result ≡ Turns.within_exp t }
 {
@@ -27,6 +31,7 @@ pub fn within_exp(t: Tangent) -> TangentAnswer
     }
 }
 
+#[tactic(auto, unfolding(crate::specs::Turns::check_log))]
 pub fn check_log(block: &[f64]) -> Answer
     ensures { result ≡ Turns.check_log block.now }
 {
@@ -36,6 +41,7 @@ pub fn check_log(block: &[f64]) -> Answer
     }
 }
 
+#[tactic(auto, unfolding(crate::specs::Turns::check_exp))]
 pub fn check_exp(tangent: &[f64]) -> TangentAnswer
     ensures { result ≡ Turns.check_exp tangent.now }
 {

@@ -1,5 +1,7 @@
 // Rotations SO(3): elements and tangents by value (so3.rs). An element's four values are kept as given; each operation
 // normalises them first.
+#![tactic(auto)]
+
 ghost use Rattle.std.specs.Prelude.{◌≡◌};
 ghost use Rattle.so3.specs.Elements as Elements;
 ghost use Rattle.so3.specs.Tangents as Tangents;
@@ -7,18 +9,19 @@ ghost use Rattle.so3.specs.Tangents as Tangents;
 use linear::{Mat3, Quaternion, Vec3};
 
 // The quaternion w, x, y, z, as it is stored.
-#[derive(Drop)]
+#[derive(Clone, Copy)]
 pub struct Element {
     pub params: Quaternion,
 }
 
 // The rotation vector theta: its direction is the axis, its norm the angle.
-#[derive(Drop)]
+#[derive(Clone, Copy)]
 pub struct Tangent {
     pub theta: Vec3,
 }
 
 impl Element {
+    #[tactic(auto, unfolding(crate::specs::Elements::identity, linear::specs::Quaternions::identity))]
     pub fn identity() -> Element
         ensures { result ≡ Elements.identity }
     {
@@ -28,6 +31,7 @@ impl Element {
     }
 
     // Kept as given.
+    #[tactic(auto, unfolding(crate::specs::Elements::new))]
     pub fn new(quaternion: Quaternion) -> Element
         ensures { result ≡ Elements.new quaternion }
     {
@@ -35,6 +39,7 @@ impl Element {
     }
 
     // Normalised once.
+    #[tactic(auto, unfolding(crate::specs::Elements::from_quaternion_wxyz, linear::specs::Quaternions::normalize, law::specs::Rotation::unit_quaternion))]
     pub fn from_quaternion_wxyz(w: f64, x: f64, y: f64, z: f64) -> Element
         ensures { result ≡ Elements.from_quaternion_wxyz w x y z }
     {
@@ -44,6 +49,7 @@ impl Element {
         }
     }
 
+    #[tactic(auto, unfolding(crate::specs::Elements::unit_quaternion, linear::specs::Quaternions::normalize, law::specs::Rotation::unit_quaternion))]
     pub fn unit_quaternion(self) -> Quaternion
         ensures { result ≡ Elements.unit_quaternion self }
     {
@@ -56,6 +62,7 @@ impl Element {
         self.unit_quaternion().rotation_matrix()
     }
 
+    #[tactic(auto, unfolding(crate::specs::Elements::inverse, crate::specs::Elements::unit_quaternion, linear::specs::Quaternions::conjugate, law::specs::Rotation::inverse))]
     pub fn inverse(self) -> Element
         ensures { result ≡ Elements.inverse self }
     {
@@ -73,12 +80,14 @@ impl Element {
         }
     }
 
+    #[tactic(auto, unfolding(crate::specs::Elements::act, crate::specs::Elements::unit_quaternion, linear::specs::Quaternions::rotate, law::specs::Rotation::act))]
     pub fn act(self, vector: Vec3) -> Vec3
         ensures { result ≡ Elements.act self vector }
     {
         self.unit_quaternion().rotate(vector)
     }
 
+    #[tactic(auto, unfolding(crate::specs::Elements::adjoint, crate::specs::Elements::rotation_matrix, law::specs::Rotation::adjoint))]
     pub fn adjoint(self) -> Mat3
         ensures { result ≡ Elements.adjoint self }
     {
@@ -95,6 +104,7 @@ impl Element {
     }
 
     // The squared sine of half the angle: what log tests.
+    #[tactic(auto, unfolding(crate::specs::Elements::sin_angle_squared, crate::specs::Elements::unit_quaternion, linear::specs::Quaternions::vector, linear::specs::Vectors::norm_squared))]
     pub fn sin_angle_squared(self) -> f64
         ensures { result ≡ Elements.sin_angle_squared self }
     {
@@ -112,6 +122,7 @@ impl Element {
     }
 
     // A tolerance that is not finite is met by nothing.
+    #[tactic(auto, unfolding(crate::specs::Elements::is_valid, checks::specs::Checks::norm_of))]
     pub fn is_valid(self, tolerance: f64) -> bool
         ensures { result ≡ Elements.is_valid self tolerance }
     {
@@ -144,6 +155,7 @@ impl Element {
         self.rotation_matrix().neg().mul(Mat3::hat(vector))
     }
 
+    #[tactic(auto, unfolding(crate::specs::Elements::log_jacobian, crate::specs::Tangents::right_jacobian_inv))]
     pub fn log_jacobian(self) -> Mat3
         ensures { result ≡ Elements.log_jacobian self }
     {
@@ -152,6 +164,7 @@ impl Element {
 }
 
 // 2, or -2 where w is below zero: q and -q are the same rotation.
+#[tactic(auto, unfolding(crate::specs::Elements::log_coeff))]
 fn log_coeff(w: f64) -> f64
     ensures { result ≡ Elements.log_coeff w }
 {
@@ -159,6 +172,7 @@ fn log_coeff(w: f64) -> f64
 }
 
 impl Tangent {
+    #[tactic(auto, unfolding(crate::specs::Tangents::zero, linear::specs::Vectors::zero))]
     pub fn zero() -> Tangent
         ensures { result ≡ Tangents.zero }
     {
@@ -168,6 +182,7 @@ impl Tangent {
     }
 
     // The squared angle: what exp and the Jacobians test.
+    #[tactic(auto, unfolding(crate::specs::Tangents::theta_squared, linear::specs::Vectors::norm_squared))]
     pub fn theta_squared(self) -> f64
         ensures { result ≡ Tangents.theta_squared self }
     {
@@ -175,6 +190,7 @@ impl Tangent {
     }
 
     // The series branch, as are the Jacobians; the calls refuse where it would be left.
+    #[tactic(auto, unfolding(crate::specs::Tangents::exp, linear::specs::Quaternions::normalize, law::specs::Series::exp, law::specs::Rotation::unit_quaternion))]
     pub fn exp(self) -> Element
         ensures { result ≡ Tangents.exp self }
     {
@@ -214,18 +230,21 @@ impl Tangent {
         self.left_jacobian_inv().transpose()
     }
 
+    #[tactic(auto, unfolding(crate::specs::Tangents::hat, linear::specs::Matrices::hat))]
     pub fn hat(self) -> Mat3
         ensures { result ≡ Tangents.hat self }
     {
         Mat3::hat(self.theta)
     }
 
+    #[tactic(auto, unfolding(crate::specs::Tangents::small_adj))]
     pub fn small_adj(self) -> Mat3
         ensures { result ≡ Tangents.small_adj self }
     {
         self.hat()
     }
 
+    #[tactic(auto, unfolding(crate::specs::Tangents::lie_bracket, crate::specs::Tangents::small_adj, crate::specs::Tangents::hat, linear::specs::Matrices::apply, law::specs::Rotation::lie_bracket))]
     pub fn lie_bracket(self, other: Tangent) -> Tangent
         ensures { result ≡ Tangents.lie_bracket self other }
     {
@@ -235,6 +254,7 @@ impl Tangent {
     }
 
     // Kept as it is where its norm is not above 2^-52.
+    #[tactic(auto, unfolding(crate::specs::Tangents::normalize, linear::specs::Vectors::norm, linear::specs::Vectors::divide))]
     pub fn normalize(self) -> Tangent
         ensures { result ≡ Tangents.normalize self }
     {
@@ -249,6 +269,7 @@ impl Tangent {
     }
 
     // Zero where its norm is not above 2^-52.
+    #[tactic(auto, unfolding(crate::specs::Tangents::normalized, linear::specs::Vectors::norm, linear::specs::Vectors::divide))]
     pub fn normalized(self) -> Tangent
         ensures { result ≡ Tangents.normalized self }
     {
@@ -264,6 +285,7 @@ impl Tangent {
 }
 
 // ---- Generators: turns about an axis
+#[tactic(auto, unfolding(crate::specs::Tangents::about_x))]
 fn about_x() -> Mat3
     ensures { result ≡ Tangents.about_x }
 {
@@ -286,6 +308,7 @@ fn about_x() -> Mat3
     }
 }
 
+#[tactic(auto, unfolding(crate::specs::Tangents::about_y))]
 fn about_y() -> Mat3
     ensures { result ≡ Tangents.about_y }
 {
@@ -308,6 +331,7 @@ fn about_y() -> Mat3
     }
 }
 
+#[tactic(auto, unfolding(crate::specs::Tangents::about_z))]
 fn about_z() -> Mat3
     ensures { result ≡ Tangents.about_z }
 {
@@ -331,6 +355,7 @@ fn about_z() -> Mat3
 }
 
 // The generator of turns about axis i; the zero matrix from i = 3.
+#[tactic(auto, unfolding(crate::specs::Tangents::generator, linear::specs::Vectors::zero, law::specs::Vector::zero))]
 pub fn generator(i: usize) -> Mat3
     ensures { result ≡ Tangents.generator i }
 {

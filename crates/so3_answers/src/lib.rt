@@ -1,4 +1,6 @@
 // What a call on blocks of SO(3) answers: an element, a tangent, a vector, a truth value or a matrix, or the refusal.
+#![tactic(auto)]
+
 ghost use Rattle.std.specs.Prelude.{◌≡◌};
 ghost use Rattle.so3_answers.specs.Answers as Answers;
 
@@ -6,38 +8,39 @@ use checks::{Check, Refusal};
 use linear::{Mat3, Vec3};
 use so3::{Element, Tangent};
 
-#[derive(Drop)]
+#[derive(Clone, Copy)]
 pub enum Answer {
     Done(Element),
     Refused(Refusal),
 }
 
-#[derive(Drop)]
+#[derive(Clone, Copy)]
 pub enum TangentAnswer {
     Done(Tangent),
     Refused(Refusal),
 }
 
-#[derive(Drop)]
+#[derive(Clone, Copy)]
 pub enum VectorAnswer {
     Done(Vec3),
     Refused(Refusal),
 }
 
-#[derive(Drop)]
+#[derive(Clone, Copy)]
 pub enum ValidAnswer {
     Done(bool),
     Refused(Refusal),
 }
 
 // The rows are all +0 on a refusal.
-#[derive(Drop)]
+#[derive(Clone, Copy)]
 pub struct MatrixAnswer {
     pub outcome: Check,
     pub matrix: Mat3,
 }
 
 // An answer whose values are finite, or the refusal.
+#[tactic(auto, unfolding(crate::specs::Answers::element_answer))]
 pub fn element_answer(a: Element) -> Answer
     ensures { result ≡ Answers.element_answer a }
 {
@@ -50,6 +53,7 @@ pub fn element_answer(a: Element) -> Answer
     }
 }
 
+#[tactic(auto, unfolding(crate::specs::Answers::finite_vector))]
 fn finite_vector(v: Vec3) -> bool
     ensures { result ≡ Answers.finite_vector v }
 {
@@ -57,6 +61,7 @@ fn finite_vector(v: Vec3) -> bool
     checks::all_finite(&values)
 }
 
+#[tactic(auto, unfolding(crate::specs::Answers::tangent_answer))]
 pub fn tangent_answer(t: Tangent) -> TangentAnswer
     ensures { result ≡ Answers.tangent_answer t }
 {
@@ -67,6 +72,7 @@ pub fn tangent_answer(t: Tangent) -> TangentAnswer
     }
 }
 
+#[tactic(auto, unfolding(crate::specs::Answers::vector_answer))]
 pub fn vector_answer(v: Vec3) -> VectorAnswer
     ensures { result ≡ Answers.vector_answer v }
 {
@@ -77,6 +83,7 @@ pub fn vector_answer(v: Vec3) -> VectorAnswer
     }
 }
 
+#[tactic(auto, unfolding(crate::specs::Answers::refused_matrix, linear::specs::Vectors::zero, law::specs::Vector::zero))]
 pub fn refused_matrix(r: Refusal) -> MatrixAnswer
     ensures { result ≡ Answers.refused_matrix r }
 {
@@ -91,6 +98,7 @@ pub fn refused_matrix(r: Refusal) -> MatrixAnswer
     }
 }
 
+#[tactic(auto, unfolding(crate::specs::Answers::matrix_answer))]
 pub fn matrix_answer(m: Mat3) -> MatrixAnswer
     ensures { result ≡ Answers.matrix_answer m }
 {

@@ -1,5 +1,7 @@
 // The calls on blocks of SO(3) that take a rotation, its four values w, x, y, z. Each refuses, or answers with the operation of `so3` of
 // the same name.
+#![tactic(auto)]
+
 ghost use Rattle.std.specs.Prelude.{◌≡◌};
 ghost use Rattle.so3_blocks.specs.Calls as Calls;
 
@@ -10,6 +12,7 @@ use so3_answers::{Answer, MatrixAnswer, TangentAnswer, ValidAnswer, VectorAnswer
 use so3_inputs::{ElementAndVector, Elements};
 
 // The one call of four values instead of a block: normalised once.
+#[tactic(auto, unfolding(crate::specs::Calls::try_from_quaternion_wxyz))]
 pub fn try_from_quaternion_wxyz(w: f64, x: f64, y: f64, z: f64) -> Answer
     ensures { result ≡ Calls.try_from_quaternion_wxyz w x y z }
 {
@@ -21,6 +24,7 @@ pub fn try_from_quaternion_wxyz(w: f64, x: f64, y: f64, z: f64) -> Answer
 }
 
 // Any four values, and any tolerance: refuses a wrong length only.
+#[tactic(auto, unfolding(crate::specs::Calls::is_valid))]
 pub fn is_valid(block: &[f64], tolerance: f64) -> ValidAnswer
     ensures { result ≡ Calls.is_valid block.now tolerance }
 {
@@ -34,6 +38,7 @@ pub fn is_valid(block: &[f64], tolerance: f64) -> ValidAnswer
     ValidAnswer::Done(so3_inputs::element_of(block).is_valid(tolerance))
 }
 
+#[tactic(auto, unfolding(crate::specs::Calls::rotation_matrix))]
 pub fn rotation_matrix(block: &[f64]) -> MatrixAnswer
     ensures { result ≡ Calls.rotation_matrix block.now }
 {
@@ -43,6 +48,7 @@ pub fn rotation_matrix(block: &[f64]) -> MatrixAnswer
     }
 }
 
+#[tactic(auto, unfolding(crate::specs::Calls::inverse))]
 pub fn inverse(block: &[f64]) -> Answer
     ensures { result ≡ Calls.inverse block.now }
 {
@@ -52,6 +58,7 @@ pub fn inverse(block: &[f64]) -> Answer
     }
 }
 
+#[tactic(auto, unfolding(crate::specs::Calls::inverse_jacobian))]
 pub fn inverse_jacobian(block: &[f64]) -> MatrixAnswer
     ensures { result ≡ Calls.inverse_jacobian block.now }
 {
@@ -61,6 +68,7 @@ pub fn inverse_jacobian(block: &[f64]) -> MatrixAnswer
     }
 }
 
+#[tactic(auto, unfolding(crate::specs::Calls::compose))]
 pub fn compose(left: &[f64], right: &[f64]) -> Answer
     ensures { result ≡ Calls.compose left.now right.now }
 {
@@ -71,6 +79,7 @@ pub fn compose(left: &[f64], right: &[f64]) -> Answer
 }
 
 // Of compose with respect to its left operand.
+#[tactic(auto, unfolding(crate::specs::Calls::compose_jacobian_self))]
 pub fn compose_jacobian_self(left: &[f64], right: &[f64]) -> MatrixAnswer
     ensures { result ≡ Calls.compose_jacobian_self left.now right.now }
 {
@@ -81,6 +90,7 @@ pub fn compose_jacobian_self(left: &[f64], right: &[f64]) -> MatrixAnswer
 }
 
 // Of compose with respect to its right operand.
+#[tactic(auto, unfolding(crate::specs::Calls::compose_jacobian_other))]
 pub fn compose_jacobian_other(left: &[f64], right: &[f64]) -> MatrixAnswer
     ensures { result ≡ Calls.compose_jacobian_other left.now right.now }
 {
@@ -90,6 +100,7 @@ pub fn compose_jacobian_other(left: &[f64], right: &[f64]) -> MatrixAnswer
     }
 }
 
+#[tactic(auto, unfolding(crate::specs::Calls::log))]
 pub fn log(block: &[f64]) -> TangentAnswer
     ensures { result ≡ Calls.log block.now }
 {
@@ -106,6 +117,7 @@ pub fn vee(block: &[f64]) -> TangentAnswer
     log(block)
 }
 
+#[tactic(auto, unfolding(crate::specs::Calls::log_jacobian))]
 pub fn log_jacobian(block: &[f64]) -> MatrixAnswer
     ensures { result ≡ Calls.log_jacobian block.now }
 {
@@ -115,6 +127,7 @@ pub fn log_jacobian(block: &[f64]) -> MatrixAnswer
     }
 }
 
+#[tactic(auto, unfolding(crate::specs::Calls::act))]
 pub fn act(block: &[f64], vector: &[f64]) -> VectorAnswer
     ensures { result ≡ Calls.act block.now vector.now }
 {
@@ -125,6 +138,7 @@ pub fn act(block: &[f64], vector: &[f64]) -> VectorAnswer
 }
 
 // Of act with respect to the rotation.
+#[tactic(auto, unfolding(crate::specs::Calls::act_jacobian_self))]
 pub fn act_jacobian_self(block: &[f64], vector: &[f64]) -> MatrixAnswer
     ensures { result ≡ Calls.act_jacobian_self block.now vector.now }
 {
@@ -135,6 +149,7 @@ pub fn act_jacobian_self(block: &[f64], vector: &[f64]) -> MatrixAnswer
 }
 
 // Of act with respect to the vector.
+#[tactic(auto, unfolding(crate::specs::Calls::act_jacobian_vector))]
 pub fn act_jacobian_vector(block: &[f64], vector: &[f64]) -> MatrixAnswer
     ensures { result ≡ Calls.act_jacobian_vector block.now vector.now }
 {
@@ -144,6 +159,7 @@ pub fn act_jacobian_vector(block: &[f64], vector: &[f64]) -> MatrixAnswer
     }
 }
 
+#[tactic(auto, unfolding(crate::specs::Calls::adjoint))]
 pub fn adjoint(block: &[f64]) -> MatrixAnswer
     ensures { result ≡ Calls.adjoint block.now }
 {
@@ -153,6 +169,7 @@ pub fn adjoint(block: &[f64]) -> MatrixAnswer
     }
 }
 
+#[tactic(auto, unfolding(crate::specs::Calls::normalize))]
 pub fn normalize(block: &[f64]) -> Answer
     ensures { result ≡ Calls.normalize block.now }
 {

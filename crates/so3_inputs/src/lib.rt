@@ -1,5 +1,7 @@
 // What the check of the blocks of a call on SO(3) gives: a rotation's four values w, x, y, z, a tangent's or a vector's three, or the refusal
 // 1 to 3 that is tried first.
+#![tactic(auto)]
+
 ghost use Rattle.std.specs.Prelude.{◌≡◌, length};
 ghost use Rattle.so3_inputs.specs.Inputs as Inputs;
 
@@ -8,6 +10,7 @@ use linear::{Quaternion, Vec3};
 use so3::{Element, Tangent};
 use so3_answers::{Answer, TangentAnswer};
 
+#[tactic(auto, unfolding(crate::specs::Inputs::element_of))]
 pub fn element_of(s: &[f64]) -> Element
     requires { length s.now ≡ 4 }
     ensures { result ≡ Inputs.element_of s.now }
@@ -22,6 +25,7 @@ pub fn element_of(s: &[f64]) -> Element
     }
 }
 
+#[tactic(auto, unfolding(crate::specs::Inputs::vector_of))]
 pub fn vector_of(s: &[f64]) -> Vec3
     requires { length s.now ≡ 3 }
     ensures { result ≡ Inputs.vector_of s.now }
@@ -33,24 +37,25 @@ pub fn vector_of(s: &[f64]) -> Vec3
     }
 }
 
-#[derive(Drop)]
+#[derive(Clone, Copy)]
 pub enum Elements {
     Done(Element, Element),
     Refused(Refusal),
 }
 
-#[derive(Drop)]
+#[derive(Clone, Copy)]
 pub enum ElementAndVector {
     Done(Element, Vec3),
     Refused(Refusal),
 }
 
-#[derive(Drop)]
+#[derive(Clone, Copy)]
 pub enum Tangents {
     Done(Tangent, Tangent),
     Refused(Refusal),
 }
 
+#[tactic(auto, unfolding(crate::specs::Inputs::check_element))]
 pub fn check_element(block: &[f64]) -> Answer
     ensures { result ≡ Inputs.check_element block.now }
 {
@@ -60,6 +65,7 @@ pub fn check_element(block: &[f64]) -> Answer
     }
 }
 
+#[tactic(auto, unfolding(crate::specs::Inputs::check_elements))]
 pub fn check_elements(left: &[f64], right: &[f64]) -> Elements
     ensures { result ≡ Inputs.check_elements left.now right.now }
 {
@@ -72,6 +78,7 @@ pub fn check_elements(left: &[f64], right: &[f64]) -> Elements
     }
 }
 
+#[tactic(auto, unfolding(crate::specs::Inputs::check_element_and_vector))]
 pub fn check_element_and_vector(block: &[f64], vector: &[f64]) -> ElementAndVector
     ensures { result ≡ Inputs.check_element_and_vector block.now vector.now }
 {
@@ -84,6 +91,7 @@ pub fn check_element_and_vector(block: &[f64], vector: &[f64]) -> ElementAndVect
     }
 }
 
+#[tactic(auto, unfolding(crate::specs::Inputs::check_tangent))]
 pub fn check_tangent(tangent: &[f64]) -> TangentAnswer
     ensures { result ≡ Inputs.check_tangent tangent.now }
 {
@@ -95,6 +103,7 @@ pub fn check_tangent(tangent: &[f64]) -> TangentAnswer
     }
 }
 
+#[tactic(auto, unfolding(crate::specs::Inputs::check_tangents))]
 pub fn check_tangents(left: &[f64], right: &[f64]) -> Tangents
     ensures { result ≡ Inputs.check_tangents left.now right.now }
 {

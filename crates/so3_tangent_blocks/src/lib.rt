@@ -1,10 +1,13 @@
 // The calls on blocks of tangents of SO(3), of three values. Each refuses, or answers with the operation of `so3` of the same name.
+#![tactic(auto)]
+
 ghost use Rattle.std.specs.Prelude.{◌≡◌};
 ghost use Rattle.so3_tangent_blocks.specs.Calls as Calls;
 
 use so3_answers::{Answer, MatrixAnswer, TangentAnswer};
 use so3_inputs::Tangents;
 
+#[tactic(auto, unfolding(crate::specs::Calls::exp))]
 pub fn exp(tangent: &[f64]) -> Answer
     ensures { result ≡ Calls.exp tangent.now }
 {
@@ -14,6 +17,7 @@ pub fn exp(tangent: &[f64]) -> Answer
     }
 }
 
+#[tactic(auto, unfolding(crate::specs::Calls::left_jacobian))]
 pub fn left_jacobian(tangent: &[f64]) -> MatrixAnswer
     ensures { result ≡ Calls.left_jacobian tangent.now }
 {
@@ -23,6 +27,7 @@ pub fn left_jacobian(tangent: &[f64]) -> MatrixAnswer
     }
 }
 
+#[tactic(auto, unfolding(crate::specs::Calls::right_jacobian))]
 pub fn right_jacobian(tangent: &[f64]) -> MatrixAnswer
     ensures { result ≡ Calls.right_jacobian tangent.now }
 {
@@ -39,6 +44,7 @@ pub fn exp_jacobian(tangent: &[f64]) -> MatrixAnswer
     right_jacobian(tangent)
 }
 
+#[tactic(auto, unfolding(crate::specs::Calls::left_jacobian_inv))]
 pub fn left_jacobian_inv(tangent: &[f64]) -> MatrixAnswer
     ensures { result ≡ Calls.left_jacobian_inv tangent.now }
 {
@@ -48,6 +54,7 @@ pub fn left_jacobian_inv(tangent: &[f64]) -> MatrixAnswer
     }
 }
 
+#[tactic(auto, unfolding(crate::specs::Calls::right_jacobian_inv))]
 pub fn right_jacobian_inv(tangent: &[f64]) -> MatrixAnswer
     ensures { result ≡ Calls.right_jacobian_inv tangent.now }
 {
@@ -57,6 +64,7 @@ pub fn right_jacobian_inv(tangent: &[f64]) -> MatrixAnswer
     }
 }
 
+#[tactic(auto, unfolding(crate::specs::Calls::hat))]
 pub fn hat(tangent: &[f64]) -> MatrixAnswer
     ensures { result ≡ Calls.hat tangent.now }
 {
@@ -66,6 +74,7 @@ pub fn hat(tangent: &[f64]) -> MatrixAnswer
     }
 }
 
+#[tactic(auto, unfolding(crate::specs::Calls::small_adj))]
 pub fn small_adj(tangent: &[f64]) -> MatrixAnswer
     ensures { result ≡ Calls.small_adj tangent.now }
 {
@@ -75,6 +84,7 @@ pub fn small_adj(tangent: &[f64]) -> MatrixAnswer
     }
 }
 
+#[tactic(auto, unfolding(crate::specs::Calls::lie_bracket))]
 pub fn lie_bracket(left: &[f64], right: &[f64]) -> TangentAnswer
     ensures { result ≡ Calls.lie_bracket left.now right.now }
 {
@@ -84,6 +94,7 @@ pub fn lie_bracket(left: &[f64], right: &[f64]) -> TangentAnswer
     }
 }
 
+#[tactic(auto, unfolding(crate::specs::Calls::normalize_tangent))]
 pub fn normalize_tangent(tangent: &[f64]) -> TangentAnswer
     ensures { result ≡ Calls.normalize_tangent tangent.now }
 {
@@ -93,6 +104,7 @@ pub fn normalize_tangent(tangent: &[f64]) -> TangentAnswer
     }
 }
 
+#[tactic(auto, unfolding(crate::specs::Calls::normalized_tangent))]
 pub fn normalized_tangent(tangent: &[f64]) -> TangentAnswer
     ensures { result ≡ Calls.normalized_tangent tangent.now }
 {

@@ -1,4 +1,6 @@
 // Where exp, log or a Jacobian of SO(3) would leave its series branch: the refusal 4.
+#![tactic(auto)]
+
 ghost use Rattle.std.specs.Prelude.{◌≡◌};
 ghost use Rattle.so3_turns.specs.Turns as Turns;
 
@@ -7,6 +9,7 @@ use so3::{Element, Tangent};
 use so3_answers::{Answer, TangentAnswer};
 
 // Above the limit, SMALL_ANGLE_THRESHOLD of lib.rs, the series branch is left.
+#[tactic(auto, unfolding(crate::specs::Turns::leaves_series))]
 pub fn leaves_series(squared: f64) -> bool
     ensures { result ≡ Turns.leaves_series squared }
 {
@@ -14,6 +17,7 @@ pub fn leaves_series(squared: f64) -> bool
 }
 
 // Log tests the half angle.
+#[tactic(auto, unfolding(crate::specs::Turns::within_log))]
 pub fn within_log(a: Element) -> Answer
     ensures { result ≡ Turns.within_log a }
 {
@@ -24,6 +28,7 @@ pub fn within_log(a: Element) -> Answer
 }
 
 // Exp and the Jacobians test the squared angle.
+#[tactic(auto, unfolding(crate::specs::Turns::within_exp))]
 pub fn within_exp(t: Tangent) -> TangentAnswer
     ensures { result ≡ Turns.within_exp t }
 {
@@ -34,6 +39,7 @@ pub fn within_exp(t: Tangent) -> TangentAnswer
 }
 
 // Log's Jacobian tests the half angle, and the squared angle of log's answer.
+#[tactic(auto, unfolding(crate::specs::Turns::within_log_jacobian))]
 pub fn within_log_jacobian(a: Element) -> Answer
     ensures { result ≡ Turns.within_log_jacobian a }
 {
@@ -43,6 +49,7 @@ pub fn within_log_jacobian(a: Element) -> Answer
     within_log(a)
 }
 
+#[tactic(auto, unfolding(crate::specs::Turns::check_log))]
 pub fn check_log(block: &[f64]) -> Answer
     ensures { result ≡ Turns.check_log block.now }
 {
@@ -52,6 +59,7 @@ pub fn check_log(block: &[f64]) -> Answer
     }
 }
 
+#[tactic(auto, unfolding(crate::specs::Turns::check_log_jacobian))]
 pub fn check_log_jacobian(block: &[f64]) -> Answer
     ensures { result ≡ Turns.check_log_jacobian block.now }
 {
@@ -61,6 +69,7 @@ pub fn check_log_jacobian(block: &[f64]) -> Answer
     }
 }
 
+#[tactic(auto, unfolding(crate::specs::Turns::check_exp))]
 pub fn check_exp(tangent: &[f64]) -> TangentAnswer
     ensures { result ≡ Turns.check_exp tangent.now }
 {

@@ -1,3 +1,3 @@
-pub mod Laws
+pub mod Hex
 pub mod Line
-pub mod Stores
+pub mod Runs

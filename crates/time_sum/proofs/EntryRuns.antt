@@ -11,7 +11,6 @@ use lib.ListN.{length}
 use lib.Ieee.{Float, binary64, add, fits}
 use lib.Ieee.Bits.{of_bits-fits}
 use lib.Ieee.Fits.{add-fits}
-use lib.Ieee.Scale.{finite}
 use Rattle.float.specs.Exact.{exact, count}
 use Rattle.rounding.proofs.Laws.{add-operands}
 use Rattle.law.specs.Galilean as Law

@@ -86,7 +86,7 @@ chain-from {m} {S} {M} zero s held a c e h f i =
     let q : a ≡ c = let p : Done a ≡ Done c = sym e ∙ h in cc in
     rw (add-zero m, +ℤ_idr S, add-zero M, ← q) i
 chain-from {m} {S} {M} (suc n) s held a c e h f i =
-    go (Calls.compose_answers held (Calls.check_element (take 11 s) tolerance)) refl h (λ b k j. chain-from n (drop 11 s) (Done b) b c refl k f.1 j)
+    go (Calls.compose_answers held (Calls.check_element (take 11 s) tolerance)) refl h (λ b k j. chain-from {m = suc m} {S = S +ℤ exact x} {M = M + count x} n (drop 11 s) (Done b) b c refl k f.1 j)
   where
     x : Float
     x = time_of (take 11 s)

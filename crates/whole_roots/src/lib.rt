@@ -1,4 +1,6 @@
 // Whole numbers alone: the one nearest to a square root, confirmed or found digit by digit.
+#![tactic(auto)]
+
 ghost use Rattle.std.specs.Prelude.{◌≡◌, true, ◌*◌, ◌^◌, ◌<◌, ◌≤◌};
 ghost use Rattle.whole_roots.specs.Roots.{WholeRoot, Between};
 ghost use Rattle.whole_roots.specs.Steps.{Ready, Extended};
@@ -64,7 +66,7 @@ fn is_nearest_root(a: u64, q: u64) -> bool
 }
 
 // The root so far, what its square leaves of the radicand's digits taken so far, and the digits to come.
-#[derive(Drop)]
+#[derive(Clone, Copy)]
 struct Digits {
     root: u64,
     rest: u64,

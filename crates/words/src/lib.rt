@@ -1,4 +1,6 @@
 // Eight little-endian bytes as a word, a word as a number, and back: every pattern is read, a NaN's too.
+#![tactic(auto)]
+
 ghost use Rattle.std.specs.Prelude.{◌≡◌, true, ◌+◌, ◌≤◌, length};
 ghost use Rattle.std.proofs.lemmas.List.Edits.{sets};
 ghost use Rattle.std.specs.Float.{binary64};

@@ -1,6 +1,6 @@
 -- The paper's bench list, its proved lines, as one list of pairs: what the definitions of the contracts give, and what the paper says. `bench-list`
 -- (proofs/BenchList.antt) proves it. Values stand as bit patterns, a refusal as its number and its figures.
-use Rattle.std.specs.Prelude.{ℕ, ◌+◌, Bool, cond, List, [], ◌∷◌, ◌++◌, map, replicate, Float}
+use Rattle.std.specs.Prelude.{ℕ, Bool, cond, List, [], ◌∷◌, ◌++◌, map, replicate, Float}
 use Rattle.std.specs.Float.{binary64}
 use Rattle.std.specs.Float.Ieee.{of_bits, to_bits}
 use Rattle.checks.specs.Refusals.{Figures, none, lengths, norm}

@@ -1,1 +1,2 @@
 // The bench list's proved lines, as one list: laws alone, no code.
+#![tactic(auto)]

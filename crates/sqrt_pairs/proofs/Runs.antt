@@ -1,0 +1,39 @@
+-- The pairs of one piece after another are those of both. Assumes nothing.
+use Rattle.std.proofs.Common.{ℕ, zero, suc, ◌≡◌, ◌+◌, ◌*◌, ◌<◌, ◌≤◌, ◌∙◌, refl, ap, add-zero, List, ◌++◌, length, get_or, arith}
+use Rattle.std.proofs.Math.ListN.{get_or-append}
+use Rattle.std.proofs.lemmas.List.{get_or-append-add}
+use Rattle.words.specs.Word.{word_at}
+use Rattle.sqrt_pairs.specs.Pairs.{wrong_pairs}
+
+-- words whose bytes are the same
+same-word : (s t : List ℕ) (i j : ℕ) → ((k : ℕ) → k < 8 → get_or s (i + k) 0 ≡ get_or t (j + k) 0) → word_at s i ≡ word_at t j
+unfolding word_at
+same-word s t i j h =
+    let e : get_or s i 0 ≡ get_or t j 0 = rw (add-zero, add-zero) at (h 0 (omega arith)) in
+    rw (e, h 1 (omega arith), h 2 (omega arith), h 3 (omega arith), h 4 (omega arith), h 5 (omega arith), h 6 (omega arith), h 7 (omega arith))
+
+word-before : (a b : List ℕ) (i : ℕ) → i + 8 ≤ length a → word_at (a ++ b) i ≡ word_at a i
+word-before a b i fits = same-word (a ++ b) a i i (λ k l. get_or-append a b 0 (i + k) (omega arith))
+
+word-behind : (a b : List ℕ) (i j : ℕ) → i ≡ length a + j → word_at (a ++ b) i ≡ word_at b j
+word-behind a b i j e = same-word (a ++ b) b i j byte
+  where
+    byte : (k : ℕ) → k < 8 → get_or (a ++ b) (i + k) 0 ≡ get_or b (j + k) 0
+    byte k l =
+        let place : i + k ≡ length a + (j + k) = omega (arith, e) in
+        ap (λ (p : ℕ). get_or (a ++ b) p 0) place ∙ get_or-append-add a b (j + k) 0
+
+pairs-before : (a b : List ℕ) (n : ℕ) → n * 16 ≤ length a → wrong_pairs (a ++ b) n ≡ wrong_pairs a n
+unfolding wrong_pairs
+pairs-before a b zero fits = refl
+pairs-before a b (suc n) fits =
+    rw (pairs-before a b n (omega arith), word-before a b (n * 16) (omega arith), word-before a b (n * 16 + 8) (omega arith))
+
+pub pairs-of-both : (a b : List ℕ) (n m : ℕ) → length a ≡ n * 16 → wrong_pairs (a ++ b) (n + m) ≡ wrong_pairs a n + wrong_pairs b m
+unfolding wrong_pairs
+pairs-of-both a b n zero e = rw (add-zero, add-zero) (pairs-before a b n (omega (arith, e)))
+pairs-of-both a b n (suc m) e =
+    let more : n + suc m ≡ suc (n + m) = omega arith in
+    let first : word_at (a ++ b) ((n + m) * 16) ≡ word_at b (m * 16) = word-behind a b _ _ (omega (arith, e)) in
+    let second : word_at (a ++ b) ((n + m) * 16 + 8) ≡ word_at b (m * 16 + 8) = word-behind a b _ _ (omega (arith, e)) in
+    ap (wrong_pairs (a ++ b)) more ∙ rw (pairs-of-both a b n m e, first, second) (omega arith)
