@@ -3,78 +3,35 @@
 #![tactic(auto)]
 
 ghost use Rattle.std.specs.Prelude.{◌≡◌};
-ghost use Rattle.so3_answers.specs.Outcomes as Rotations;
-ghost use Rattle.sgal3_composition.specs.Outcomes as Elements;
-ghost use Rattle.sgal3_answers.specs.Outcomes as Galilean;
 ghost use Rattle.bench_lines.specs.Numbers as Numbers;
 
-use sgal3_composition::Answer;
-use so3_answers::ValidAnswer;
+use checks::Refusal;
 use std::io;
 
-#[tactic(auto, unfolding(sgal3_composition::specs::Outcomes::element, checks::specs::Outcomes::outcome))]
-fn element_number(a: Answer) -> u64
-    ensures { result ≡ (Elements.element a).number }
+// The number is what is printed, and so is yes or no.
+#[tactic(auto, unfolding(crate::specs::Numbers::number, checks::specs::Outcomes::outcome))]
+fn number<T: Copy>(answer: Result<T, Refusal>) -> u32
+    ensures { result ≡ Numbers.number answer }
 {
-    match a {
-        Answer::Done(_) => 0,
-        Answer::Refused(r) => r.number() as u64,
+    match answer {
+        Ok(_) => 0,
+        Err(r) => r.number(),
     }
 }
 
-#[tactic(auto, unfolding(sgal3_answers::specs::Outcomes::tangent, checks::specs::Outcomes::outcome))]
-fn tangent_number(a: sgal3_answers::TangentAnswer) -> u64
-    ensures { result ≡ (Galilean.tangent a).number }
+#[tactic(auto, unfolding(crate::specs::Numbers::yes))]
+fn yes(answer: Result<bool, Refusal>) -> u32
+    ensures { result ≡ Numbers.yes answer }
 {
-    match a {
-        sgal3_answers::TangentAnswer::Done(_) => 0,
-        sgal3_answers::TangentAnswer::Refused(r) => r.number() as u64,
-    }
-}
-
-#[tactic(auto, unfolding(so3_answers::specs::Outcomes::element, checks::specs::Outcomes::outcome))]
-fn rotation_number(a: so3_answers::Answer) -> u64
-    ensures { result ≡ (Rotations.element a).number }
-{
-    match a {
-        so3_answers::Answer::Done(_) => 0,
-        so3_answers::Answer::Refused(r) => r.number() as u64,
-    }
-}
-
-#[tactic(auto, unfolding(so3_answers::specs::Outcomes::tangent, checks::specs::Outcomes::outcome))]
-fn rotation_tangent_number(a: so3_answers::TangentAnswer) -> u64
-    ensures { result ≡ (Rotations.tangent a).number }
-{
-    match a {
-        so3_answers::TangentAnswer::Done(_) => 0,
-        so3_answers::TangentAnswer::Refused(r) => r.number() as u64,
-    }
-}
-
-#[tactic(auto, unfolding(so3_answers::specs::Outcomes::valid, checks::specs::Outcomes::outcome))]
-fn valid_number(a: ValidAnswer) -> u64
-    ensures { result ≡ (Rotations.valid a).number }
-{
-    match a {
-        ValidAnswer::Done(_) => 0,
-        ValidAnswer::Refused(r) => r.number() as u64,
-    }
-}
-
-#[tactic(auto, unfolding(crate::specs::Numbers::first, so3_answers::specs::Outcomes::valid, checks::specs::Outcomes::outcome))]
-fn valid_value(a: ValidAnswer) -> u64
-    ensures { result ≡ Numbers.first (Rotations.valid a).values }
-{
-    match a {
-        ValidAnswer::Done(b) => if b { 1 } else { 0 },
-        ValidAnswer::Refused(_) => 0,
+    match answer {
+        Ok(true) => 1,
+        Ok(false) | Err(_) => 0,
     }
 }
 
 fn main(rt: HostRuntime) -> io::Result<()> {
     let theta = [1.52587890625e-5, 0.0, 0.0];
-    let n = rotation_number(so3_tangent_blocks::exp(&theta));
+    let n = number(manifold_blocks::exp::<so3::Tangent>(&theta));
     println!(rt; "SO3 exp of theta (2^-16, 0, 0): {n}")?;
     let tangent = [
         0.0,
@@ -88,10 +45,10 @@ fn main(rt: HostRuntime) -> io::Result<()> {
         0.0,
         0.0,
     ];
-    let n = element_number(sgal3_blocks::exp(&tangent));
+    let n = number(manifold_blocks::exp::<sgal3::Tangent>(&tangent));
     println!(rt; "SGal3 exp of theta (2^-16, 0, 0): {n}")?;
     let near = [1.0, 7.62939453125e-6, 0.0, 0.0];
-    let n = rotation_tangent_number(so3_blocks::log(&near));
+    let n = number(manifold_blocks::log::<so3::Element>(&near));
     println!(rt; "SO3 log of (1, 2^-17, 0, 0): {n}")?;
     let turned = [
         0.0,
@@ -106,27 +63,27 @@ fn main(rt: HostRuntime) -> io::Result<()> {
         0.0,
         0.0,
     ];
-    let n = tangent_number(sgal3_blocks::log(&turned));
+    let n = number(manifold_blocks::log::<sgal3::Element>(&turned));
     println!(rt; "SGal3 log of (1, 2^-17, 0, 0): {n}")?;
     let zeros = [0.0, 0.0, 0.0, 0.0, 0.0, 0.0, 0.0, 0.0, 0.0, 0.0, 0.0];
-    let n = element_number(sgal3_composition::inverse(&zeros));
+    let n = number(sgal3_composition::inverse(&zeros));
     println!(rt; "inverse, all four zero: {n}")?;
     let nan = 0.0 / 0.0;
     let bad = [0.0, 0.0, 0.0, 2.0, 0.0, 0.0, 0.0, 0.0, 0.0, 0.0, nan];
-    let n = element_number(sgal3_composition::inverse(&bad));
+    let n = number(sgal3_composition::inverse(&bad));
     println!(rt; "inverse, NaN time and norm 2: {n}")?;
     let two = [0.0, 0.0, 0.0, 2.0, 0.0, 0.0, 0.0, 0.0, 0.0, 0.0, 0.0];
-    let valid = sgal3_blocks::is_valid(&two, 1e-6);
-    let n = valid_number(valid);
-    let yes = valid_value(valid);
-    println!(rt; "SGal3 is_valid of w = 2 with 1e-6: {n} {yes}")?;
-    let valid = sgal3_blocks::is_valid(&two, 0.0);
-    let n = valid_number(valid);
-    let yes = valid_value(valid);
-    println!(rt; "SGal3 is_valid of w = 2 with 0: {n} {yes}")?;
+    let valid = manifold_blocks::is_valid::<sgal3::Element>(&two, 1e-6);
+    let n = number(valid);
+    let y = yes(valid);
+    println!(rt; "SGal3 is_valid of w = 2 with 1e-6: {n} {y}")?;
+    let valid = manifold_blocks::is_valid::<sgal3::Element>(&two, 0.0);
+    let n = number(valid);
+    let y = yes(valid);
+    println!(rt; "SGal3 is_valid of w = 2 with 0: {n} {y}")?;
     let double = [2.0, 0.0, 0.0, 0.0];
-    let valid = so3_blocks::is_valid(&double, 1e-6);
-    let n = valid_number(valid);
-    let yes = valid_value(valid);
-    println!(rt; "SO3 is_valid of w = 2 with 1e-6: {n} {yes}")
+    let valid = manifold_blocks::is_valid::<so3::Element>(&double, 1e-6);
+    let n = number(valid);
+    let y = yes(valid);
+    println!(rt; "SO3 is_valid of w = 2 with 1e-6: {n} {y}")
 }

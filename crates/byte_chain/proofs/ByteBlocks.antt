@@ -1,43 +1,36 @@
 -- A chain of byte blocks, block by block. Assumes nothing.
-use Prim.Native.Nat.{ℕ, suc, ◌+◌, ◌-◌, ◌*◌, ◌/◌, ◌≤◌, ◌<◌}
-use mathlib.Core.Path.{◌≡◌, refl, sym, ap, ◌∙◌}
-use mathlib.Core.List.{List, [], ◌∷◌, ◌++◌}
+use Prim.Native.Nat.{ℕ, suc, ◌+◌, ◌*◌, ◌/◌, ◌<◌}
+use mathlib.Core.Path.{◌≡◌, refl, ap, ◌∙◌}
+use mathlib.Core.Bool.{true, false}
+use mathlib.Core.List.{List, ◌++◌}
 use native.Mathlib.Omega.{arith}
-use lib.ListN.{length, take, drop}
+use lib.ListN.{length, length-append}
 use lib.Seq.{take_at, drop_at}
 use lib.Ieee.{Float}
 use borrow.Author.Tests.{eq-eqb, ne_eqb}
+use Rattle.std.specs.Prelude.{Ok, Err}
 use Rattle.checks.specs.Refusals.{earlier}
-use Rattle.checks.specs.Checks.{tolerance, check_param_block}
+use Rattle.checks.specs.Checks as Checks
+use Rattle.checks.specs.Checks.{both, tolerance, all_finite, check_param_block}
+use Rattle.checks.proofs.Passed.{passed-finite}
 use Rattle.checks.specs.declared.Refusal.{Refusal}
-use Rattle.checks.specs.declared.Refusal.TheVariants.{Length}
-use Rattle.checks.specs.declared.Check.{Check}
-use Rattle.checks.specs.declared.Check.TheVariants.{Passed, Refused as Check-as-Refused}
+use Rattle.checks.specs.declared.Refusal.TheVariants.{Length, Overflow}
 use Rattle.sgal3.specs.Elements as Elements
 use Rattle.sgal3.specs.Elements.{element_of}
 use Rattle.sgal3.specs.declared.Element.{Element}
 use Rattle.element_bytes.specs.Bytes.{values_at}
-use Rattle.element_bytes.proofs.Values.{values_length, values-append}
-use Rattle.sgal3_composition.specs.Calls.{check_element, element_answer, first_refusal, compose_answers, chain_from}
-use Rattle.sgal3_composition.specs.declared.Answer.{Answer}
-use Rattle.sgal3_composition.specs.declared.Answer.TheVariants.{Done, Refused}
+use Rattle.element_bytes.proofs.Values.{values_length, values-joined}
+use Rattle.sgal3_composition.specs.Calls.{Answer, check_element, element_answer, compose_answers, chain_from}
+use Rattle.sgal3_composition.proofs.Answers.{finished, overflowed}
 use Rattle.byte_chain.specs.Blocks as Blocks
-use Rattle.byte_chain.specs.Steps.{chain_after, ended_by}
-
--- a slice of all of a list
-pub whole : (l : List ℕ) → take (length l - 0) l ≡ l
-whole l = let e : length l - 0 ≡ length l = omega arith in ap (λ (n : ℕ). take n l) e ∙ all l
-  where
-    all : (l : List ℕ) → take (length l) l ≡ l
-    all [] = refl
-    all (x ∷ l) = ap (λ (t : List ℕ). x ∷ t) (all l)
+use Rattle.byte_chain.specs.Steps.{chain_after, chain_on}
 
 -- ---- the element of a block that is checked
-pub passed : (v : List Float) (t : Float) → check_param_block v 11 3 t ≡ Passed → check_element v t ≡ Done (element_of v)
+pub passed : (v : List Float) (t : Float) → check_param_block v 11 3 t ≡ Checks.passed → check_element v t ≡ Ok (element_of v)
 unfolding check_element
 passed v t e = rw e
 
-pub refused : (v : List Float) (t : Float) (r : Refusal) → check_param_block v 11 3 t ≡ Check-as-Refused r → check_element v t ≡ Refused r
+pub refused : (v : List Float) (t : Float) (r : Refusal) → check_param_block v 11 3 t ≡ Err r → check_element v t ≡ Err r
 unfolding check_element
 refused v t r e = rw e
 
@@ -45,73 +38,67 @@ pub block_of : (s : List ℕ) → length s ≡ 88 → Blocks.check_block s ≡ c
 unfolding Blocks.check_block
 block_of s e = rw (eq-eqb _ _ e)
 
-pub no_block : (s : List ℕ) → (length s ≡ 88 → ⊥) → Blocks.check_block s ≡ Refused (Length 88 (length s))
+pub no_block : (s : List ℕ) → (length s ≡ 88 → ⊥) → Blocks.check_block s ≡ Err (Length 88 (length s))
 unfolding Blocks.check_block
 no_block s e = rw (ne_eqb _ _ e)
 
 -- ---- a chain's first block, and the rest
-split : (n : ℕ) (s : List ℕ) (i : ℕ) → values_at (suc n * 11) s i ≡ values_at 11 s i ++ values_at (n * 11) s (i + 88)
-split n s i =
-    let a : suc n * 11 ≡ 11 + n * 11 = omega arith in
-    ap (λ (k : ℕ). values_at k s i) a ∙ values-append 11 (n * 11) s i
-
-step : (held : Answer) (n : ℕ) (s : List ℕ) (i : ℕ)
-    → chain_from held (suc n) (values_at (suc n * 11) s i) ≡ chain_from (compose_answers held (check_element (values_at 11 s i) tolerance)) n (values_at (n * 11) s (i + 88))
+one : (held : Answer) (n : ℕ) (block rest : List Float) → length block ≡ 11 → chain_from held (suc n) (block ++ rest) ≡ chain_from (compose_answers held (check_element block tolerance)) n rest
 unfolding chain_from
-step held n s i =
-    let a = split n s i in
-    let b : take 11 (values_at (suc n * 11) s i) ≡ values_at 11 s i = ap (take 11) a ∙ take_at (values_at 11 s i) (values_at (n * 11) s (i + 88)) 11 (values_length 11 s i) in
-    let c : drop 11 (values_at (suc n * 11) s i) ≡ values_at (n * 11) s (i + 88) = ap (drop 11) a ∙ drop_at (values_at 11 s i) (values_at (n * 11) s (i + 88)) 11 (values_length 11 s i) in
-    rw (b, c)
+one held n block rest h = rw (take_at block rest 11 h, drop_at block rest 11 h)
 
-pub next : (held : Answer) (left : ℕ) (s : List ℕ) (i : ℕ) → 0 < left
-    → chain_from held left (values_at (left * 11) s i) ≡ chain_from (compose_answers held (check_element (values_at 11 s i) tolerance)) (left - 1) (values_at ((left - 1) * 11) s (i + 88))
-next held left s i h =
-    let e : left ≡ suc (left - 1) = omega arith in
-    ap (λ (n : ℕ). chain_from held n (values_at (n * 11) s i)) e ∙ step held (left - 1) s i
+module _ (s block rest : List ℕ) (e : s ≡ block ++ rest) (h : length block ≡ 88) where
+  split : values_at (length s / 88 * 11) s 0 ≡ values_at 11 block 0 ++ values_at (length rest / 88 * 11) rest 0
+  split =
+      let n : length s / 88 * 11 ≡ 11 + length rest / 88 * 11 = omega (arith, ap length e ∙ length-append block rest) in
+      rw (n, e) (values-joined 11 (length rest / 88 * 11) block rest h)
 
--- what is held is an element: the next block is composed with it, or refused
-pub goes_on : (a : Element) (left : ℕ) (s : List ℕ) (i : ℕ) → 0 < left → check_param_block (values_at 11 s i) 11 3 tolerance ≡ Passed
-    → chain_from (Done a) left (values_at (left * 11) s i) ≡ chain_from (element_answer (Elements.compose a (element_of (values_at 11 s i)))) (left - 1) (values_at ((left - 1) * 11) s (i + 88))
-unfolding compose_answers
-goes_on a left s i h e = next (Done a) left s i h ∙ rw (passed (values_at 11 s i) tolerance e)
+  pub next : (held : Answer) → chain_on held s ≡ chain_on (compose_answers held (check_element (values_at 11 block 0) tolerance)) rest
+  unfolding chain_on
+  next held =
+      let n : length s / 88 ≡ suc (length rest / 88) = omega (arith, ap length e ∙ length-append block rest) in
+      rw (split, n) (one held (length rest / 88) (values_at 11 block 0) _ (values_length 11 block 0))
 
-pub stops : (a : Element) (q : Refusal) (left : ℕ) (s : List ℕ) (i : ℕ) → 0 < left → check_param_block (values_at 11 s i) 11 3 tolerance ≡ Check-as-Refused q
-    → chain_from (Done a) left (values_at (left * 11) s i) ≡ chain_from (Refused q) (left - 1) (values_at ((left - 1) * 11) s (i + 88))
-unfolding compose_answers first_refusal
-stops a q left s i h e = next (Done a) left s i h ∙ rw (refused (values_at 11 s i) tolerance q e)
+  -- what is held is an element: the next block is composed with it, or refused
+  composes : (a : Element) → check_param_block (values_at 11 block 0) 11 3 tolerance ≡ Checks.passed
+      → chain_on (Ok a) s ≡ chain_on (element_answer (Elements.compose a (element_of (values_at 11 block 0)))) rest
+  unfolding compose_answers both
+  composes a p = next (Ok a) ∙ rw (passed (values_at 11 block 0) tolerance p)
 
-pub stops-by : (a : Element) (c : Check) (q : Refusal) (left : ℕ) (s : List ℕ) (i : ℕ) → 0 < left → check_param_block (values_at 11 s i) 11 3 tolerance ≡ c → c ≡ Check-as-Refused q
-    → chain_from (ended_by c) (left - 1) (values_at ((left - 1) * 11) s (i + 88)) ≡ chain_from (Done a) left (values_at (left * 11) s i)
-unfolding ended_by
-stops-by a c q left s i h e f = rw f (sym (stops a q left s i h (e ∙ f)))
+  pub goes_on : (a : Element) → check_param_block (values_at 11 block 0) 11 3 tolerance ≡ Checks.passed
+      → all_finite (Elements.coeffs (Elements.compose a (element_of (values_at 11 block 0)))) ≡ true
+      → chain_on (Ok a) s ≡ chain_on (Ok (Elements.compose a (element_of (values_at 11 block 0)))) rest
+  goes_on a p f = composes a p ∙ rw (finished _ f)
 
--- what is held is a refusal already
-pub passed-by : (r : Refusal) (left : ℕ) (s : List ℕ) (i : ℕ) → 0 < left → check_param_block (values_at 11 s i) 11 3 tolerance ≡ Passed
-    → chain_from (Refused r) left (values_at (left * 11) s i) ≡ chain_from (Refused r) (left - 1) (values_at ((left - 1) * 11) s (i + 88))
-unfolding compose_answers first_refusal
-passed-by r left s i h e = next (Refused r) left s i h ∙ rw (passed (values_at 11 s i) tolerance e)
+  pub overflows : (a : Element) → check_param_block (values_at 11 block 0) 11 3 tolerance ≡ Checks.passed
+      → all_finite (Elements.coeffs (Elements.compose a (element_of (values_at 11 block 0)))) ≡ false
+      → chain_on (Ok a) s ≡ chain_on (Err Overflow) rest
+  overflows a p f = composes a p ∙ rw (overflowed _ f)
 
-pub refused-by : (r q : Refusal) (left : ℕ) (s : List ℕ) (i : ℕ) → 0 < left → check_param_block (values_at 11 s i) 11 3 tolerance ≡ Check-as-Refused q
-    → chain_from (Refused r) left (values_at (left * 11) s i) ≡ chain_from (Refused (earlier r q)) (left - 1) (values_at ((left - 1) * 11) s (i + 88))
-unfolding compose_answers first_refusal
-refused-by r q left s i h e = next (Refused r) left s i h ∙ rw (refused (values_at 11 s i) tolerance q e)
+  pub stops : (a : Element) (q : Refusal) → check_param_block (values_at 11 block 0) 11 3 tolerance ≡ Err q → chain_on (Ok a) s ≡ chain_on (Err q) rest
+  unfolding compose_answers both
+  stops a q p = next (Ok a) ∙ rw (refused (values_at 11 block 0) tolerance q p)
 
-pub end : (held : Answer) (left : ℕ) (s : List ℕ) (i : ℕ) → left ≤ 0 → chain_from held left (values_at (left * 11) s i) ≡ held
-unfolding chain_from
-end held left s i h = let e : left ≡ 0 = omega arith in rw e
+  -- what is held is a refusal already
+  pub passed-by : (r : Refusal) → check_param_block (values_at 11 block 0) 11 3 tolerance ≡ Checks.passed → chain_on (Err r) s ≡ chain_on (Err r) rest
+  unfolding compose_answers both
+  passed-by r p = next (Err r) ∙ rw (passed (values_at 11 block 0) tolerance p)
+
+  pub refused-by : (r q : Refusal) → check_param_block (values_at 11 block 0) 11 3 tolerance ≡ Err q → chain_on (Err r) s ≡ chain_on (Err (earlier r q)) rest
+  unfolding compose_answers both
+  refused-by r q p = next (Err r) ∙ rw (refused (values_at 11 block 0) tolerance q p)
+
+pub end : (held : Answer) (s : List ℕ) → length s < 88 → chain_on held s ≡ held
+unfolding chain_on chain_from
+end held s h = let e : length s / 88 ≡ 0 = omega arith in rw e
 
 -- ---- the chain after a first block
-pub after-passed : (f : List ℕ) (n : ℕ) (s : List ℕ) → check_param_block (values_at 11 f 0) 11 3 tolerance ≡ Passed
-    → chain_from (Done (element_of (values_at 11 f 0))) n (values_at (n * 11) s 0) ≡ chain_after f n s
-unfolding chain_after
-after-passed f n s e = rw (passed (values_at 11 f 0) tolerance e)
+pub after : (f s : List ℕ) → chain_after f (length s / 88) s ≡ chain_on (check_element (values_at 11 f 0) tolerance) s
+unfolding chain_after chain_on
+after f s = refl
 
-pub after-refused : (f : List ℕ) (q : Refusal) (n : ℕ) (s : List ℕ) → check_param_block (values_at 11 f 0) 11 3 tolerance ≡ Check-as-Refused q
-    → chain_from (Refused q) n (values_at (n * 11) s 0) ≡ chain_after f n s
-unfolding chain_after
-after-refused f q n s e = rw (refused (values_at 11 f 0) tolerance q e)
+-- a chain's first block
+pub ruleset first = (after, passed, refused, passed-finite)
 
--- of a slice of all of the bytes
-pub whole-chain : (f s : List ℕ) → chain_after f (length (take (length s - 0) s) / 88) (take (length s - 0) s) ≡ chain_after f (length s / 88) s
-whole-chain f s = ap (λ (l : List ℕ). chain_after f (length l / 88) l) (whole s)
+-- one more block of a chain, and its end
+pub ruleset blocks = (goes_on, overflows, stops, passed-by, refused-by, end, passed-finite)

@@ -1,11 +1,13 @@
 -- The chain of byte blocks after a first block: of one block it is compose's answer, and after the identity's it is the chain's. Assumes nothing.
 use Prim.Native.Nat.{ℕ, ◌-◌, ◌/◌, ◌%◌, ◌≤◌, ◌<◌}
-use mathlib.Core.Path.{◌≡◌, refl, ◌∙◌}
+use mathlib.Core.Path.{◌≡◌, refl, sym, ◌∙◌}
 use mathlib.Core.List.{List, [], ◌∷◌}
-use native.Mathlib.Omega.{arith}
 use borrow.Author.Tests.{eq-eqb, ne_eqb, lt-ltb, le-ltb}
+use lib.Dec.{lit<}
 use lib.ListN.{length}
+use Rattle.std.proofs.lemmas.List.{append-nil}
 use lib.Ieee.{of_bits, units, size, add, sub, mul, lt}
+use Rattle.std.specs.Prelude.{Ok, Err}
 use Rattle.law.specs.Vector as Vector
 use Rattle.law.specs.Quaternion as Quaternion
 use Rattle.law.specs.Galilean as Galilean
@@ -18,17 +20,13 @@ use Rattle.words.specs.Word.{word_at, value_at}
 use Rattle.sgal3.specs.Elements as Elements
 use Rattle.element_bytes.specs.Bytes.{values_at}
 use Rattle.sgal3_composition.specs.Calls as Calls
-use Rattle.sgal3_composition.specs.declared.Answer.TheVariants.{Done, Refused}
 use Rattle.byte_chain.specs.Blocks as Blocks
 use Rattle.byte_chain.specs.Steps as Steps
-use Rattle.byte_chain.proofs.ByteBlocks.{block_of, next, end}
+use Rattle.byte_chain.proofs.ByteBlocks.{block_of, next, end, after}
 
 pub one_block : (f s : List ℕ) → length f ≡ 88 → length s ≡ 88 → Steps.chain_after f (length s / 88) s ≡ Calls.compose_answers (Blocks.check_block f) (Blocks.check_block s)
-unfolding Steps.chain_after
 one_block f s d e =
-    let k : length s / 88 ≡ 1 = omega arith in
-    rw (k, block_of f d, block_of s e)
-    (next (Calls.check_element (values_at 11 f 0) tolerance) 1 s 0 (omega arith) ∙ end _ 0 s 88 (omega arith))
+    rw (block_of f d, block_of s e) (after f s ∙ next s s [] (sym (append-nil s)) e _ ∙ end _ [] (lit< tt))
 
 -- the identity's bytes: 1.0 at the place of the quaternion's w
 abbrev pub identity_block : List ℕ
@@ -45,8 +43,8 @@ identity_block =
     ∷ 0 ∷ 0 ∷ 0 ∷ 0 ∷ 0 ∷ 0 ∷ 0 ∷ 0
     ∷ 0 ∷ 0 ∷ 0 ∷ 0 ∷ 0 ∷ 0 ∷ 0 ∷ 0 ∷ []
 
-identity-block : Calls.check_element (values_at 11 identity_block 0) tolerance ≡ Done Elements.identity
-unfolding Calls.check_element Checks.check_param_block Checks.check_values Checks.next Checks.check_unit_quaternion Checks.check_norm Checks.norm_of Checks.all_finite Checks.tolerance values_at value_at word_at of_bits square_root nearest_root count isqrt units size add sub mul lt abs Elements.identity Elements.element_of Galilean.identity Vector.zero Quaternion.identity
+identity-block : Calls.check_element (values_at 11 identity_block 0) tolerance ≡ Ok Elements.identity
+unfolding Calls.check_element Checks.check_param_block Checks.check_values Checks.check_length Checks.check_unit_quaternion Checks.check_norm Checks.norm_of Checks.all_finite Checks.tolerance values_at value_at word_at of_bits square_root nearest_root count isqrt units size add sub mul lt abs Elements.identity Elements.element_of Galilean.identity Vector.zero Quaternion.identity
 identity-block = refl
 
 pub after-identity : (n : ℕ) (s : List ℕ) → Steps.chain_after identity_block n s ≡ Blocks.chain_blocks n s
@@ -54,11 +52,11 @@ unfolding Steps.chain_after Blocks.chain_blocks Calls.chain_blocks
 after-identity n s = rw identity-block
 
 -- ---- the chain's lengths
-pub too_long : (most : ℕ) (s : List ℕ) → most < length s → Blocks.chain most s ≡ Refused (Length most (length s))
+pub too_long : (most : ℕ) (s : List ℕ) → most < length s → Blocks.chain most s ≡ Err (Length most (length s))
 unfolding Blocks.chain
 too_long most s h = rw (lt-ltb _ _ h)
 
-pub not-whole : (most : ℕ) (s : List ℕ) → length s ≤ most → (length s % 88 ≡ 0 → ⊥) → Blocks.chain most s ≡ Refused (Length (length s - length s % 88) (length s))
+pub not-whole : (most : ℕ) (s : List ℕ) → length s ≤ most → (length s % 88 ≡ 0 → ⊥) → Blocks.chain most s ≡ Err (Length (length s - length s % 88) (length s))
 unfolding Blocks.chain
 not-whole most s h e = rw (le-ltb _ _ h, ne_eqb _ _ e)
 

@@ -1,15 +1,14 @@
 -- Byte blocks: an element of 88 little-endian bytes, and a chain of them. Definitions only.
-use Rattle.std.specs.Prelude.{ℕ, ◌-◌, ◌*◌, ◌/◌, ◌%◌, cond, List, eqb, ltb, length}
+use Rattle.std.specs.Prelude.{ℕ, ◌-◌, ◌*◌, ◌/◌, ◌%◌, cond, List, eqb, ltb, length, Err}
 use Rattle.checks.specs.Checks.{tolerance}
 use Rattle.checks.specs.declared.Refusal.TheVariants.{Length}
 use Rattle.element_bytes.specs.Bytes.{values_at}
 use Rattle.sgal3_composition.specs.Calls as Calls
-use Rattle.sgal3_composition.specs.declared.Answer.{Answer}
-use Rattle.sgal3_composition.specs.declared.Answer.TheVariants.{Refused}
+use Rattle.sgal3_composition.specs.Calls.{Answer}
 
 -- the element of a block of 88 bytes, or why the block is refused; lengths count bytes
 unfoldable pub check_block : List ℕ → Answer
-check_block s = cond (eqb (length s) 88) (Calls.check_element (values_at 11 s 0) tolerance) (Refused (Length 88 (length s)))
+check_block s = cond (eqb (length s) 88) (Calls.check_element (values_at 11 s 0) tolerance) (Err (Length 88 (length s)))
 
 -- the chain of n blocks is the chain of their values
 unfoldable pub chain_blocks : ℕ → List ℕ → Answer
@@ -18,5 +17,5 @@ chain_blocks n s = Calls.chain_blocks n (values_at (n * 11) s 0)
 -- at most `most` bytes, and whole blocks; the length expected is the largest permitted one not above the actual
 unfoldable pub chain : ℕ → List ℕ → Answer
 chain most s =
-    cond (ltb most (length s)) (Refused (Length most (length s)))
-    (cond (eqb (length s % 88) 0) (chain_blocks (length s / 88) s) (Refused (Length (length s - length s % 88) (length s))))
+    cond (ltb most (length s)) (Err (Length most (length s)))
+    (cond (eqb (length s % 88) 0) (chain_blocks (length s / 88) s) (Err (Length (length s - length s % 88) (length s))))

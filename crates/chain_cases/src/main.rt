@@ -1,12 +1,10 @@
 // The chain of each file that is named as an argument: its name, and the report.
 #![tactic(auto)]
 
-use chain_run::{Noting, Reading};
 use std::env::FillError;
 use std::fs::File;
 use std::rt::Env;
 
-#[tactic(auto, unfolding(chain_run::specs::Reported::Reported))]
 fn main(rt: HostRuntime) {
     for k in 1..usize::MAX {
         let mut argument = [0u8; 4096];
@@ -26,7 +24,7 @@ fn main(rt: HostRuntime) {
             }
         };
         let mut file = match File::open(&rt, name) {
-            Ok(file) => Noting::new(file),
+            Ok(file) => file,
             Err(e) => {
                 let _ = eprintln!(rt; "{name}: {e}");
                 continue;
@@ -36,13 +34,13 @@ fn main(rt: HostRuntime) {
         let mut space = [0u8; 65473];
         let mut page = [0u8; 220];
         match chain_run::read_report(&mut file, &mut space, &mut page) {
-            Reading::Report { read: _, put } => {
-                if let Err(e) = rt.write_all(&page[..put]) {
+            Ok(report) => {
+                if let Err(e) = rt.write_all(&page[..report.put]) {
                     let _ = eprintln!(rt; "standard output: {e}");
                 }
             }
-            Reading::Failed => {
-                let _ = eprintln!(rt; "{name}: {}", file.error);
+            Err(e) => {
+                let _ = eprintln!(rt; "{name}: {e}");
             }
         }
     }

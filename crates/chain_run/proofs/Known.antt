@@ -1,5 +1,5 @@
 -- The report of all the bytes that a reader gives. Assumes nothing.
-use Rattle.std.proofs.Common.{ℕ, ◌≡◌, ◌<◌, ◌≤◌, ◌∙◌, refl, sym, ap, Bool, true, false, Option, None, Some, List, [], ◌++◌, append-nil, length, take, arith}
+use Rattle.std.proofs.Common.{ℕ, ◌≡◌, ◌<◌, ◌≤◌, ◌∙◌, refl, sym, ap, Bool, true, false, Option, None, Some, IfSome, List, [], ◌++◌, append-nil, length, take, arith}
 use Rattle.std.proofs.Math.Seq.{length-take-le}
 use Rattle.std.proofs.lemmas.List.{take_at}
 use Rattle.std.specs.Io.KnownBytes.{Consumes, IsAtEnd}
@@ -7,8 +7,6 @@ use borrow.Author.Tests.{ltb-true, ltb-false}
 use lib.Dec.{ltb}
 use Rattle.report.specs.Text.{Written, report_of}
 use Rattle.report.proofs.Reading.{one-byte-more}
-use Rattle.chain_run.specs.Known.{ReportedWhole}
-use Rattle.chain_run.specs.declared.Reading.TheVariants.{Report}
 
 -- what was read is all the input, or enough of it
 all-reported : (xs ys space : List ℕ) (n : ℕ) → n ≤ length space → length space ≡ 65473 → xs ≡ take n space ++ ys
@@ -24,8 +22,7 @@ all-reported xs ys space n fits size e end = go (ltb n (length space)) refl
 
 pub whole : (a b : Option (List ℕ)) (space page : List ℕ) (n put : ℕ) → n ≤ length space → length space ≡ 65473
     → Consumes a b (take n space) → (n < length space → IsAtEnd b) → Written put page (report_of (take n space))
-    → ReportedWhole (Report n put) a page
-unfolding ReportedWhole
+    → IfSome a (λ input. Written put page (report_of input))
 whole None b space page n put fits size came end w = tt
 whole (Some xs) None space page n put fits size came end w = absurd came
 whole (Some xs) (Some ys) space page n put fits size came end w =

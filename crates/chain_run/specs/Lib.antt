@@ -1,3 +1,2 @@
-pub mod Count
 pub mod Known
 pub mod Reported

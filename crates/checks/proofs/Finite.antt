@@ -1,6 +1,6 @@
 -- All values of a list are finite: tested one at a time, and said of each value and each part. Assumes nothing.
 use Prim.Native.Nat.{ℕ, zero, suc, ◌+◌, ◌≤◌, ◌<◌}
-use mathlib.Core.Path.{◌≡◌, refl}
+use mathlib.Core.Path.{◌≡◌, refl, sym, ap, ◌∙◌}
 use mathlib.Core.Bool.{Bool, true, false, ◌&&◌, false≢true}
 use mathlib.Core.List.{List, [], ◌∷◌, ◌++◌}
 use native.Mathlib.Numerals.{add-one}
@@ -34,10 +34,14 @@ finite-at [] e i h = absurd (omega arith)
 finite-at (x ∷ s) e zero h = (both (finite x) (all_finite s) e).0
 finite-at (x ∷ s) e (suc i) h = finite-at s (both (finite x) (all_finite s) e).1 i (omega arith)
 
-pub finite-append : (a b : List Float) → all_finite (a ++ b) ≡ true → (all_finite a ≡ true) × (all_finite b ≡ true)
+pub finite-parts : (a b : List Float) → all_finite (a ++ b) ≡ (all_finite a && all_finite b)
 unfolding all_finite
-finite-append [] b e = (refl, e)
-finite-append (x ∷ a) b e =
-    let h = both (finite x) (all_finite (a ++ b)) e in
-    let t = finite-append a b h.1 in
-    (rw (h.0, t.0), t.1)
+finite-parts [] b = refl
+finite-parts (x ∷ a) b = ap (λ (t : Bool). finite x && t) (finite-parts a b) ∙ assoc (finite x) (all_finite a) (all_finite b)
+  where
+    assoc : (a b c : Bool) → (a && (b && c)) ≡ ((a && b) && c)
+    assoc true b c = refl
+    assoc false b c = refl
+
+pub finite-append : (a b : List Float) → all_finite (a ++ b) ≡ true → (all_finite a ≡ true) × (all_finite b ≡ true)
+finite-append a b e = both (all_finite a) (all_finite b) (sym (finite-parts a b) ∙ e)

@@ -18,8 +18,7 @@ use Rattle.float.specs.Root.{square_root}
 use Rattle.rounding.specs.Number.{Number, one, limit, plus_part, minus_part}
 use Rattle.rounding.specs.Error.{Within}
 use Rattle.rounding.proofs.Laws.{plus-parts, minus-parts, one-pos, one-limit, sub_number, sub_parts, sqrt-root, root-squared, lt-is, le_is}
-use Rattle.checks.specs.Checks.{check_norm}
-use Rattle.checks.specs.declared.Check.TheVariants.{Passed}
+use Rattle.checks.specs.Checks.{passed, check_norm}
 
 -- ---- a number above zero, and one between two others
 record Positive (x : Float) : Type 0 where
@@ -195,7 +194,7 @@ not-below {t} {d} A D h k =
     less t d o h k = omega arith
 
 -- ---- the check
-passes : {a b c d s t : Float} → Bounds a b c d → Between a b s → Between c d t → check_norm (square_root s) t ≡ Passed
+passes : {a b c d s t : Float} → Bounds a b c d → Between a b s → Between c d t → check_norm (square_root s) t ≡ passed
 unfolding check_norm
 passes {a} {b} {c} {d} {s} {t} B S H =
     let R = sqrt-root S.positive.number S.positive.sign S.positive.some in
@@ -218,7 +217,7 @@ passes {a} {b} {c} {d} {s} {t} B S H =
     some : (r o : ℕ) → (2 ^ 22 - 3) * o ≤ 2 ^ 22 * r → 0 < o → 0 < r
     some r o h k = omega arith
 
-pub passes-without-root : (a b c d s t : Float) → T (fits binary64 s) → T (fits binary64 t) → ((le a s && le s b) && (le c t && le t d)) ≡ true → Bounds a b c d → check_norm (square_root s) t ≡ Passed
+pub passes-without-root : (a b c d s t : Float) → T (fits binary64 s) → T (fits binary64 t) → ((le a s && le s b) && (le c t && le t d)) ≡ true → Bounds a b c d → check_norm (square_root s) t ≡ passed
 passes-without-root a b c d s t S H e B =
     let h : T ((le a s && le s b) && (le c t && le t d)) = subst T (sym e) tt in
     let l = and_l (le a s && le s b) (le c t && le t d) h in

@@ -1,14 +1,32 @@
 -- The checks of a parameter block, in the paper's order: length, all values, the quaternion's norm. Definitions only.
-use Rattle.std.specs.Prelude.{ℕ, Bool, true, ◌&&◌, cond, List, [], ◌∷◌, eqb, length, get_or, take, drop, Float}
+use Rattle.std.specs.Prelude.{ℕ, Bool, true, ◌&&◌, cond, List, [], ◌∷◌, eqb, length, get_or, take, drop, Result, Ok, Err, ⊤, Float}
 use Rattle.std.specs.Float.{nan, binary64}
 use Rattle.std.specs.Float.Ieee.{of_bits, add, sub, mul, lt}
 use Rattle.std.specs.Float.Ieee.Scale.{finite}
 use Rattle.float.specs.Exact.{abs}
 use Rattle.float.specs.Root.{square_root}
 use Rattle.checks.specs.Refusals.{earlier}
+use Rattle.checks.specs.declared.Refusal.{Refusal}
 use Rattle.checks.specs.declared.Refusal.TheVariants.{Length, NotFinite, NotUnit}
-use Rattle.checks.specs.declared.Check.{Check}
-use Rattle.checks.specs.declared.Check.TheVariants.{Passed, Refused}
+
+-- a check that passed has nothing to add
+abbrev pub Check : Type 0
+Check = Result ⊤ Refusal
+
+abbrev pub passed : Check
+passed = Ok tt
+
+-- what follows where nothing was refused
+abbrev pub and_then : {A B : Type 0} → Result A Refusal → (A → Result B Refusal) → Result B Refusal
+and_then (Ok a) f = f a
+and_then (Err r) f = Err r
+
+-- of two, the refusal that is tried first
+unfoldable pub both : {A B : Type 0} → Result A Refusal → Result B Refusal → Result (A × B) Refusal
+both (Ok a) (Ok b) = Ok (a, b)
+both (Ok a) (Err s) = Err s
+both (Err r) (Ok b) = Err r
+both (Err r) (Err s) = Err (earlier r s)
 
 -- the f64 nearest 1e-6
 unfoldable pub tolerance : Float
@@ -33,30 +51,22 @@ norm_of q = square_root (sq 0 ⊕ sq 1 ⊕ sq 2 ⊕ sq 3)
 unfoldable pub check_norm : Float → Float → Check
 check_norm n tolerance =
     cond (finite n)
-    (cond (lt tolerance (abs (sub binary64 n (of_bits binary64 0x3ff0_0000_0000_0000)))) (Refused (NotUnit n)) Passed)
-    (Refused NotFinite)
+    (cond (lt tolerance (abs (sub binary64 n (of_bits binary64 0x3ff0_0000_0000_0000)))) (Err (NotUnit n)) passed)
+    (Err NotFinite)
 
 unfoldable pub check_unit_quaternion : List Float → Float → Check
 check_unit_quaternion q tolerance = check_norm (norm_of q) tolerance
 
+unfoldable pub check_length : List Float → ℕ → Check
+check_length s len = cond (eqb (length s) len) passed (Err (Length len (length s)))
+
 -- a block of len values
 unfoldable pub check_values : List Float → ℕ → Check
-check_values s len = cond (eqb (length s) len) (cond (all_finite s) Passed (Refused NotFinite)) (Refused (Length len (length s)))
-
--- what follows a check that passed
-unfoldable pub next : Check → Check → Check
-next Passed c = c
-next (Refused r) c = Refused r
+check_values s len = and_then (check_length s len) (λ _. cond (all_finite s) passed (Err NotFinite))
 
 -- the quaternion of a block of len values is the four from `at` on
 unfoldable pub check_param_block : List Float → ℕ → ℕ → Float → Check
-check_param_block s len at tolerance = next (check_values s len) (check_unit_quaternion (take 4 (drop at s)) tolerance)
-
--- of two blocks' checks, the refusal that is tried first
-unfoldable pub both : Check → Check → Check
-both Passed right = right
-both (Refused r) Passed = Refused r
-both (Refused r) (Refused s) = Refused (earlier r s)
+check_param_block s len at tolerance = and_then (check_values s len) (λ _. check_unit_quaternion (take 4 (drop at s)) tolerance)
 
 unfoldable pub validate_sgal3_params : List Float → Check
 validate_sgal3_params s = check_param_block s 11 3 tolerance

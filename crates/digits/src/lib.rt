@@ -1,33 +1,42 @@
-// Numbers in digits, as bytes of a slice: hexadecimal, and decimal below 100.
+// Numbers in digits, as bytes of a slice: hexadecimal, and decimal below 100. By hand, since std's UpperHex promises nothing of its text;
+// into a slice from a place on, as in words, since there is no heap.
 #![tactic(auto)]
 
 ghost use Rattle.std.specs.Prelude.{◌≡◌, ◌+◌, ◌<◌, ◌≤◌, length};
 ghost use Rattle.std.proofs.lemmas.List.Edits.{sets};
 ghost use Rattle.digits.specs.Digits as Digits;
 
+// The letters that stand for the digits from ten on.
+#[derive(Clone, Copy, Debug, PartialEq, Eq)]
+pub enum Case {
+    Lower,
+    Upper,
+}
+
 #[tactic(auto, unfolding(crate::specs::Digits::digit))]
-fn digit(d: u64) -> u8
+fn digit(d: u64, case: Case) -> u8
     requires { d < 16 }
-    ensures { result ≡ Digits.digit d }
+    ensures { result ≡ Digits.digit_in case d }
 {
+    let ten = match case {
+        Case::Lower => b'a',
+        Case::Upper => b'A',
+    };
     if d < 10 {
         b'0' + d as u8
     } else {
-        b'A' + (d - 10) as u8
+        ten + (d - 10) as u8
     }
 }
 
 // Sixteen hexadecimal digits, the last one first.
-pub fn put_hex(out: &mut [u8], at: usize, n: u64)
+pub fn put_hex(out: &mut [u8], at: usize, n: u64, case: Case)
     requires { at + 16 ≤ length out.old }
-    ensures { out.new ≡ sets out.old at (Digits.hex 16 n) }
+    ensures { out.new ≡ sets out.old at (Digits.hex_in case 16 n) }
 {
-    let mut left = 16usize;
     let mut rest = n;
-    while 0 < left {
-        left -= 1;
-        let d = digit(rest % 16);
-        out[at + left] = d;
+    for k in (0..16usize).rev() {
+        out[at + k] = digit(rest % 16, case);
         rest /= 16;
     }
 }
@@ -37,7 +46,11 @@ fn tens(k: u64) -> u8
     requires { k < 100 }
     ensures { result ≡ Digits.tens k }
 {
-    if k < 10 { b' ' } else { digit(k / 10) }
+    if k < 10 {
+        b' '
+    } else {
+        digit(k / 10, Case::Upper)
+    }
 }
 
 #[tactic(auto, unfolding(crate::specs::Digits::place))]
@@ -47,7 +60,7 @@ pub fn put_place(out: &mut [u8], at: usize, k: u64)
     ensures { out.new ≡ sets out.old at (Digits.place k) }
 {
     let t = tens(k);
-    let d = digit(k % 10);
+    let d = digit(k % 10, Case::Upper);
     out[at] = t;
     out[at + 1] = d;
     out[at + 2] = b' ';
@@ -62,12 +75,12 @@ pub fn put_decimal(out: &mut [u8], at: usize, n: u64) -> usize
     ensures out_after { out.new ≡ sets out.old at (Digits.decimal n) }
 {
     if n < 10 {
-        let d = digit(n);
+        let d = digit(n, Case::Upper);
         out[at] = d;
         return at + 1;
     }
-    let t = digit(n / 10);
-    let d = digit(n % 10);
+    let t = digit(n / 10, Case::Upper);
+    let d = digit(n % 10, Case::Upper);
     out[at] = t;
     out[at + 1] = d;
     at + 2

@@ -1,19 +1,15 @@
--- The values of bytes, place by place; and the check of eleven of them, by its parts. Assumes nothing.
+-- The values of bytes, place by place. Assumes nothing.
 use Prim.Native.Nat.{ℕ, zero, suc, ◌+◌, ◌-◌, ◌*◌, ◌≤◌, ◌<◌}
 use mathlib.Core.Path.{◌≡◌, refl, sym, ap, ◌∙◌}
 use mathlib.Core.Bool.{true, false}
 use mathlib.Core.List.{List, [], ◌∷◌, ◌++◌}
 use native.Mathlib.Omega.{arith}
-use lib.ListN.{length, take, drop}
+use lib.ListN.{length, get_or}
 use lib.Ieee.{Float}
 use lib.Ieee.Scale.{finite}
-use borrow.Author.Tests.{eq-eqb}
-use Rattle.checks.specs.Checks as Checks
-use Rattle.checks.specs.Checks.{all_finite, check_values, check_unit_quaternion, check_param_block}
-use Rattle.checks.specs.declared.Refusal.TheVariants.{NotFinite}
-use Rattle.checks.specs.declared.Check.TheVariants.{Refused as Check-as-Refused}
-use Rattle.checks.proofs.Finite.{both, finite-append}
-use Rattle.words.specs.Word.{value_at}
+use Rattle.std.proofs.lemmas.List.{get_or_append_left, get_or-append_right}
+use Rattle.checks.specs.Checks.{all_finite}
+use Rattle.words.specs.Word.{word_at, value_at}
 use Rattle.sgal3.specs.Elements.{coeffs, element_of}
 use Rattle.element_bytes.specs.Bytes.{values_at}
 
@@ -47,48 +43,59 @@ values-append (suc m) n s i =
     let b : i + suc m * 8 ≡ i + 8 + m * 8 = omega arith in
     rw (a, b) (ap (λ (l : List Float). value_at s i ∷ l) (values-append m n s (i + 8)))
 
--- ---- parts of a run of finite values
-pub finite-front : (n m : ℕ) (s : List ℕ) (i : ℕ) → all_finite (values_at (n + m) s i) ≡ true → all_finite (values_at n s i) ≡ true
-finite-front n m s i e = (finite-append (values_at n s i) (values_at m s (i + n * 8)) (ap all_finite (sym (values-append n m s i)) ∙ e)).0
+-- ---- the values of the same bytes at another place
+word-same : (s t : List ℕ) (i j : ℕ) → ((k : ℕ) → k < 8 → get_or s (i + k) 0 ≡ get_or t (j + k) 0) → word_at s i ≡ word_at t j
+unfolding word_at
+word-same s t i j h =
+    let a : i ≡ i + 0 = omega arith in
+    let b : j ≡ j + 0 = omega arith in
+    let first : get_or s i 0 ≡ get_or t j 0 = ap (λ (p : ℕ). get_or s p 0) a ∙ h 0 (omega arith) ∙ ap (λ (p : ℕ). get_or t p 0) (sym b) in
+    rw (first, h 1 (omega arith), h 2 (omega arith), h 3 (omega arith), h 4 (omega arith), h 5 (omega arith), h 6 (omega arith), h 7 (omega arith))
 
-pub finite-part : (k n m : ℕ) (s : List ℕ) (i : ℕ) → all_finite (values_at (k + (n + m)) s i) ≡ true → all_finite (values_at n s (i + k * 8)) ≡ true
-finite-part k n m s i e = finite-front n m s (i + k * 8) (finite-append (values_at k s i) (values_at (n + m) s (i + k * 8)) (ap all_finite (sym (values-append k (n + m) s i)) ∙ e)).1
+pub values-same : (n : ℕ) (s t : List ℕ) (i j : ℕ) → ((k : ℕ) → k < n * 8 → get_or s (i + k) 0 ≡ get_or t (j + k) 0) → values_at n s i ≡ values_at n t j
+unfolding values_at value_at
+values-same zero s t i j h = refl
+values-same (suc n) s t i j h = rw (word-same s t i j (λ k q. h k (omega arith)), values-same n s t (i + 8) (j + 8) later)
+  where
+    later : (k : ℕ) → k < n * 8 → get_or s (i + 8 + k) 0 ≡ get_or t (j + 8 + k) 0
+    later k q =
+        let a : i + 8 + k ≡ i + (8 + k) = omega arith in
+        let b : j + 8 + k ≡ j + (8 + k) = omega arith in
+        rw (a, b) (h (8 + k) (omega arith))
 
-pub finite-first : (m : ℕ) (s : List ℕ) (i : ℕ) → all_finite (values_at (1 + m) s i) ≡ true → finite (value_at s i) ≡ true
+-- of two lists of bytes, one behind the other
+pub values-joined : (m n : ℕ) (a b : List ℕ) → length a ≡ m * 8 → values_at (m + n) (a ++ b) 0 ≡ values_at m a 0 ++ values_at n b 0
+values-joined m n a b h = values-append m n (a ++ b) 0 ∙ rw (values-same m (a ++ b) a 0 0 front, values-same n (a ++ b) b (0 + m * 8) 0 back)
+  where
+    front : (k : ℕ) → k < m * 8 → get_or (a ++ b) (0 + k) 0 ≡ get_or a (0 + k) 0
+    front k q = get_or_append_left a b 0 (0 + k) (omega arith)
+
+    back : (k : ℕ) → k < n * 8 → get_or (a ++ b) (0 + m * 8 + k) 0 ≡ get_or b (0 + k) 0
+    back k q =
+        let e : 0 + m * 8 + k - m * 8 ≡ 0 + k = omega arith in
+        get_or-append_right a b (m * 8) (0 + m * 8 + k) 0 h (omega arith) ∙ ap (λ (p : ℕ). get_or b p 0) e
+
+-- ---- tested one after the other: the values from the one at i on
+module _ (n : ℕ) (s : List ℕ) (start i : ℕ) (h : i < n) where
+  first_left : values_at (n - i) s (start + i * 8) ≡ value_at s (start + i * 8) ∷ values_at (n - (i + 1)) s (start + (i + 1) * 8)
+  first_left =
+      let a : n - i ≡ suc (n - (i + 1)) = omega arith in
+      let b : start + (i + 1) * 8 ≡ start + i * 8 + 8 = omega arith in
+      rw (a, b) (unfold values_at in refl)
+
+  pub stops : finite (value_at s (start + i * 8)) ≡ false → all_finite (values_at (n - i) s (start + i * 8)) ≡ false
+  unfolding all_finite
+  stops e = rw (first_left, e)
+
+  pub goes_on : finite (value_at s (start + i * 8)) ≡ true → all_finite (values_at (n - i) s (start + i * 8)) ≡ all_finite (values_at (n - (i + 1)) s (start + (i + 1) * 8))
+  unfolding all_finite
+  goes_on e = rw (first_left, e)
+
+pub none_left : (n : ℕ) (s : List ℕ) (start i : ℕ) → n ≤ i → all_finite (values_at (n - i) s (start + i * 8)) ≡ true
 unfolding values_at all_finite
-finite-first m s i e = (both (finite (value_at s i)) true (finite-front 1 m s i e)).0
-
-pub finite-at : (k m : ℕ) (s : List ℕ) (i : ℕ) → all_finite (values_at (k + (1 + m)) s i) ≡ true → finite (value_at s (i + k * 8)) ≡ true
-finite-at k m s i e = finite-first 0 s (i + k * 8) (finite-part k 1 m s i e)
-
--- ---- tested one after the other
-module _ (left : ℕ) (s : List ℕ) (i : ℕ) (h : 0 < left) where
-  one_more : left ≡ suc (left - 1)
-  one_more = omega arith
-
-  pub stops : finite (value_at s i) ≡ false → all_finite (values_at left s i) ≡ false
-  unfolding values_at all_finite
-  stops e = rw (one_more, e)
-
-  pub goes_on : finite (value_at s i) ≡ true → all_finite (values_at left s i) ≡ all_finite (values_at (left - 1) s (i + 8))
-  unfolding values_at all_finite
-  goes_on e = ap (λ (n : ℕ). all_finite (values_at n s i)) one_more ∙ rw e
-
-pub none_left : (left : ℕ) (s : List ℕ) (i : ℕ) → left ≤ 0 → all_finite (values_at left s i) ≡ true
-unfolding values_at all_finite
-none_left left s i h = let e : left ≡ 0 = omega arith in rw e
-
--- ---- the check of a block, by its parts
-pub not_finite : (s : List ℕ) (i : ℕ) (t : Float) → all_finite (values_at 11 s i) ≡ false → check_param_block (values_at 11 s i) 11 3 t ≡ Check-as-Refused NotFinite
-unfolding check_param_block check_values Checks.next
-not_finite s i t e = rw (eq-eqb (length (values_at 11 s i)) 11 (values_length 11 s i), e)
+none_left n s start i h = let e : n - i ≡ 0 = omega arith in rw e
 
 -- the values of a block's element are the block's own
 pub element-values : (s : List ℕ) (i : ℕ) → coeffs (element_of (values_at 11 s i)) ≡ values_at 11 s i
 unfolding coeffs element_of
 element-values s i = ap (λ (v : List Float). coeffs (element_of v)) (eleven s i) ∙ sym (eleven s i)
-
-pub by-norm : (s : List ℕ) (i : ℕ) (t : Float) → all_finite (values_at 11 s i) ≡ true
-    → check_param_block (values_at 11 s i) 11 3 t ≡ check_unit_quaternion (take 4 (drop 3 (coeffs (element_of (values_at 11 s i))))) t
-unfolding check_param_block check_values Checks.next
-by-norm s i t e = rw (eq-eqb (length (values_at 11 s i)) 11 (values_length 11 s i), e) (ap (λ (l : List Float). check_unit_quaternion (take 4 (drop 3 l)) t) (sym (element-values s i)))

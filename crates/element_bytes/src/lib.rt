@@ -8,29 +8,29 @@ ghost use Rattle.sgal3.specs.Elements.{coeffs, element_of};
 ghost use Rattle.element_bytes.specs.Bytes as Bytes;
 ghost use Rattle.element_bytes.specs.Steps as Steps;
 
-use checks::{Check, Refusal};
+use checks::Refusal;
 use linear::{Quaternion, Vec3};
 use sgal3::Element;
 
 // Whether the eleven values of the 88 bytes from start on are finite.
+#[tactic(auto, using(crate::proofs::Values::stops, crate::proofs::Values::goes_on, crate::proofs::Values::none_left))]
 fn all_finite(s: &[u8], start: usize) -> bool
     requires { start + 88 ≤ length s.now }
     ensures { result ≡ all_finite (Bytes.values_at 11 s.now start) }
 {
-    let mut left = 11usize;
-    let mut at = start;
-    while 0 < left {
-        if !words::is_finite_at(s, at) {
+    for i in 0..11 {
+        if !words::is_finite_at(s, start + i * 8) {
             return false;
         }
-        at += 8;
-        left -= 1;
     }
     true
 }
 
+// The parts of a block are a slice and a place, as in words, and that their values are finite is a clause: a type for each part would be opened at
+// once.
+
 // The vector of the 24 bytes from at on.
-#[tactic(auto, unfolding(crate::specs::Steps::vector_at))]
+#[tactic(auto, unfolding(crate::specs::Steps::vector_at, crate::specs::Bytes::values_at, checks::specs::Checks::all_finite))]
 fn vector(s: &[u8], at: usize) -> Vec3
     requires at_in_bounds { at + 24 ≤ length s.now }
     requires at_value { all_finite (Bytes.values_at 3 s.now at) ≡ true }
@@ -44,7 +44,7 @@ fn vector(s: &[u8], at: usize) -> Vec3
 }
 
 // The quaternion of the 32 bytes from at on.
-#[tactic(auto, unfolding(crate::specs::Steps::quaternion_at))]
+#[tactic(auto, unfolding(crate::specs::Steps::quaternion_at, crate::specs::Bytes::values_at, checks::specs::Checks::all_finite))]
 fn quaternion(s: &[u8], at: usize) -> Quaternion
     requires at_in_bounds { at + 32 ≤ length s.now }
     requires at_value { all_finite (Bytes.values_at 4 s.now at) ≡ true }
@@ -59,7 +59,7 @@ fn quaternion(s: &[u8], at: usize) -> Quaternion
 }
 
 // The element of the 88 bytes from at on, whose values are finite.
-#[tactic(auto, unfolding(sgal3::specs::Elements::element_of, crate::specs::Steps::vector_at, crate::specs::Steps::quaternion_at))]
+#[tactic(auto, unfolding(sgal3::specs::Elements::element_of, crate::specs::Steps::vector_at, crate::specs::Steps::quaternion_at, crate::specs::Bytes::values_at, checks::specs::Checks::all_finite))]
 pub fn element(s: &[u8], at: usize) -> Element
     requires at_in_bounds { at + 88 ≤ length s.now }
     requires at_value { all_finite (Bytes.values_at 11 s.now at) ≡ true }
@@ -78,17 +78,19 @@ pub fn element(s: &[u8], at: usize) -> Element
 
 // The check of the 88 bytes from at on. It does not hand on the values: its callers read them where they use them, which is faster
 // than through memory.
-pub fn check_values(s: &[u8], at: usize) -> Check
+#[tactic(auto, unfolding(checks::specs::Checks::check_param_block, checks::specs::Checks::check_values, checks::specs::Checks::check_length, crate::specs::Bytes::values_at, sgal3::specs::Elements::coeffs, sgal3::specs::Elements::element_of))]
+pub fn check_values(s: &[u8], at: usize) -> Result<(), Refusal>
     requires { at + 88 ≤ length s.now }
     ensures { result ≡ check_param_block (Bytes.values_at 11 s.now at) 11 3 tolerance }
 {
     if !all_finite(s, at) {
-        return Check::Refused(Refusal::NotFinite);
+        return Err(Refusal::NotFinite);
     }
     let values = element(s, at).coeffs();
     checks::check_unit_quaternion(&values[3..7], checks::tolerance())
 }
 
+#[tactic(auto, unfolding(checks::specs::Checks::all_finite))]
 fn put_vector(out: &mut [u8], at: usize, a: Vec3)
     requires at_in_bounds { at + 24 ≤ length out.old }
     requires a_value { all_finite (Steps.vector_values a) ≡ true }
@@ -99,6 +101,7 @@ fn put_vector(out: &mut [u8], at: usize, a: Vec3)
     words::put_finite_value(out, at + 16, a.z);
 }
 
+#[tactic(auto, unfolding(checks::specs::Checks::all_finite))]
 fn put_quaternion(out: &mut [u8], at: usize, q: Quaternion)
     requires at_in_bounds { at + 32 ≤ length out.old }
     requires q_value { all_finite (Steps.quaternion_values q) ≡ true }
@@ -110,6 +113,7 @@ fn put_quaternion(out: &mut [u8], at: usize, q: Quaternion)
     words::put_finite_value(out, at + 24, q.z);
 }
 
+#[tactic(auto, unfolding(sgal3::specs::Elements::coeffs, checks::specs::Checks::all_finite))]
 pub fn put_element(out: &mut [u8], e: Element)
     requires out_len { length out.old ≡ 88 }
     requires e_value { all_finite (coeffs e) ≡ true }

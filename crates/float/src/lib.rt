@@ -31,11 +31,10 @@ pub fn is_finite_bits(b: u64) -> bool
 pub fn is_finite(x: f64) -> bool
     ensures { result ≡ finite x }
 {
-    let infinity = 1.0 / 0.0;
-    (-infinity < x) & (x < infinity)
+    x.is_finite()
 }
 
-// x with its sign cleared.
+// x with its sign cleared. Not std's abs, which branches on the sign: the sign of a norm's distance from 1 can't be foretold.
 pub fn magnitude(x: f64) -> f64
     ensures { result ≡ abs x }
 {
@@ -201,7 +200,7 @@ fn split(b: u64) -> Scaled
     }
 }
 
-// The bits of a / 2^52.
+// The bits of a / 2^52. The bounds on a stand in the contracts and not in a type: every line here computes with the bare number.
 fn fraction_bits(a: u64) -> u64
     requires bound { 2 ^ 52 ≤ a }
     requires a_bound { a < 2 ^ 54 }

@@ -1,99 +1,97 @@
--- What a request on the Galilean group is answered, as bytes: the calls by their numbers. Definitions only.
-use Rattle.std.specs.Prelude.{ℕ, cond, List, [], eqb, ltb, Float}
+-- What a request on the Galilean group is answered, as bytes: the calls by their numbers, none where there is no such call. Definitions only.
+use Rattle.std.specs.Prelude.{ℕ, cond, List, [], ◌∷◌, eqb, ltb, Option, Some, None, Ok}
 use Rattle.std.specs.Float.{binary64}
 use Rattle.std.specs.Float.Ieee.{of_bits}
-use Rattle.checks.specs.Outcomes.{outcome}
-use Rattle.checks.specs.declared.Check.TheVariants.{Passed}
+use Rattle.manifold.specs.Answers.{answered, vector_values, matrix_values}
+use Rattle.manifold_blocks.specs.Calls as Generic
+use Rattle.sgal3_rows.specs.TenRows as TenRows
+use Rattle.so3.specs.Elements as So3
 use Rattle.sgal3.specs.Elements as Elements
 use Rattle.sgal3.specs.Tangents as Tangents
-use Rattle.sgal3_algebra.specs.Algebra as Algebra
+use Rattle.sgal3.specs.Algebra as Algebra
+use Rattle.sgal3.specs.Group.{group, tangents}
 use Rattle.sgal3_composition.specs.Calls as Composition
-use Rattle.sgal3_answers.specs.Answers.{tangent_answer}
 use Rattle.sgal3_blocks.specs.Calls as Galilean
-use Rattle.sgal3_matrix_blocks.specs.Calls as GalileanMatrices
-use Rattle.manifold_sgal3_blocks.specs.Calls as GalileanGroup
 use Rattle.outcomes.specs.Outcomes as Outcomes
-
-unfoldable pub generator_call : ℕ → List ℕ
-generator_call extra = Outcomes.of_values (outcome Passed (Algebra.generator extra))
+use Rattle.outcomes.specs.declared.Request.{Request}
 
 -- elements of the Galilean group: the calls that the handset makes, and the parts of one
-unfoldable pub element_call : ℕ → List Float → List Float → ℕ → List ℕ
-element_call call left right extra =
-    cond (eqb call 70) (Outcomes.of_element (Composition.compose left right))
-    (cond (eqb call 71) (Outcomes.of_element (Composition.inverse left))
-    (cond (eqb call 72) (Outcomes.of_element (Composition.chain left))
-    (cond (eqb call 73) (Outcomes.of_vector (Galilean.translation left))
-    (cond (eqb call 74) (Outcomes.of_vector (Galilean.velocity left))
-    (cond (eqb call 75) (Outcomes.of_number (Galilean.time left))
-    (cond (eqb call 76) (Outcomes.of_rotation (Galilean.rotation_quaternion left))
-    (cond (eqb call 77) (Outcomes.of_matrix3 (Galilean.rotation_matrix left))
-    (cond (eqb call 78) (Outcomes.of_coeffs (Galilean.coeffs left))
-    []))))))))
+unfoldable pub element_call : Request → Option (List ℕ)
+element_call r =
+    cond (eqb r.call 70) (Some (Outcomes.of Elements.coeffs 0 (Composition.compose r.left.now r.right.now)))
+    (cond (eqb r.call 71) (Some (Outcomes.of Elements.coeffs 0 (Composition.inverse r.left.now)))
+    (cond (eqb r.call 72) (Some (Outcomes.of Elements.coeffs 0 (Composition.chain r.left.now)))
+    (cond (eqb r.call 73) (Some (Outcomes.of vector_values 0 (Galilean.translation r.left.now)))
+    (cond (eqb r.call 74) (Some (Outcomes.of vector_values 0 (Galilean.velocity r.left.now)))
+    (cond (eqb r.call 75) (Some (Outcomes.of (λ x. x ∷ []) 0 (Galilean.time r.left.now)))
+    (cond (eqb r.call 76) (Some (Outcomes.of So3.values 0 (Galilean.rotation_quaternion r.left.now)))
+    (cond (eqb r.call 77) (Some (Outcomes.of matrix_values 9 (Generic.rotation_matrix group r.left.now)))
+    (cond (eqb r.call 78) (Some (Outcomes.of (λ s. s) 11 (Galilean.coeffs r.left.now)))
+    None))))))))
 
 -- the logarithm of an element of the Galilean group, and what it acts on
-unfoldable pub log_call : ℕ → List Float → List Float → ℕ → List ℕ
-log_call call left right extra =
-    cond (eqb call 79) (Outcomes.of_tangent (Galilean.log left))
-    (cond (eqb call 80) (Outcomes.of_tangent (Galilean.log left))
-    (cond (eqb call 81) (Outcomes.of_vector (Galilean.act left right))
-    (cond (eqb call 82) (Outcomes.of_matrix3 (Galilean.act_jacobian_vector left right))
-    (cond (eqb call 83) (Outcomes.of_element (Galilean.normalize left))
-    (cond (eqb call 84) (Outcomes.of_valid (Galilean.is_valid left (of_bits binary64 extra)))
-    [])))))
+unfoldable pub log_call : Request → Option (List ℕ)
+log_call r =
+    cond (eqb r.call 79) (Some (Outcomes.of Tangents.coeffs 0 (Generic.log group Tangents.coeffs r.left.now)))
+    (cond (eqb r.call 80) (Some (Outcomes.of Tangents.coeffs 0 (Generic.log group Tangents.coeffs r.left.now)))
+    (cond (eqb r.call 81) (Some (Outcomes.of vector_values 0 (Generic.act group r.left.now r.right.now)))
+    (cond (eqb r.call 82) (Some (Outcomes.of matrix_values 9 (Generic.act_jacobian_vector group r.left.now r.right.now)))
+    (cond (eqb r.call 83) (Some (Outcomes.of Elements.coeffs 0 (Generic.normalize group Elements.coeffs r.left.now)))
+    (cond (eqb r.call 84) (Some (Outcomes.of_valid (Generic.is_valid group r.left.now (of_bits binary64 r.extra))))
+    None)))))
 
 -- a tangent of the Galilean group, and what takes no block
-unfoldable pub tangent_call : ℕ → List Float → List Float → ℕ → List ℕ
-tangent_call call left right extra =
-    cond (eqb call 85) (Outcomes.of_element (Galilean.exp left))
-    (cond (eqb call 86) (Outcomes.of_tangent (Galilean.lie_bracket left right))
-    (cond (eqb call 87) (Outcomes.of_tangent (Galilean.normalize_tangent left))
-    (cond (eqb call 88) (Outcomes.of_tangent (Galilean.normalized_tangent left))
-    (cond (eqb call 89) (Outcomes.of_tangent (tangent_answer Tangents.zero))
-    (cond (eqb call 90) (Outcomes.of_element (Composition.element_answer Elements.identity))
-    [])))))
+unfoldable pub tangent_call : Request → Option (List ℕ)
+tangent_call r =
+    cond (eqb r.call 85) (Some (Outcomes.of Elements.coeffs 0 (Generic.exp tangents Elements.coeffs r.left.now)))
+    (cond (eqb r.call 86) (Some (Outcomes.of Tangents.coeffs 0 (Generic.lie_bracket tangents Tangents.coeffs r.left.now r.right.now)))
+    (cond (eqb r.call 87) (Some (Outcomes.of Tangents.coeffs 0 (Generic.normalize_tangent tangents Tangents.coeffs r.left.now)))
+    (cond (eqb r.call 88) (Some (Outcomes.of Tangents.coeffs 0 (Generic.normalized_tangent tangents Tangents.coeffs r.left.now)))
+    (cond (eqb r.call 89) (Some (Outcomes.of Tangents.coeffs 0 (answered Tangents.coeffs Tangents.zero)))
+    (cond (eqb r.call 90) (Some (Outcomes.of Elements.coeffs 0 (answered Elements.coeffs Elements.identity)))
+    None)))))
 
 -- the matrices of the Galilean group
-unfoldable pub matrix_call : ℕ → List Float → List Float → ℕ → List ℕ
-matrix_call call left right extra =
-    cond (eqb call 91) (generator_call extra)
-    (cond (eqb call 92) (Outcomes.of_matrix5 (GalileanMatrices.matrix left))
-    (cond (eqb call 93) (Outcomes.of_matrix10 (GalileanMatrices.adjoint left))
-    (cond (eqb call 94) (Outcomes.of_matrix10 (GalileanMatrices.inverse_jacobian left))
-    (cond (eqb call 95) (Outcomes.of_matrix10 (GalileanMatrices.compose_jacobian_self left right))
-    (cond (eqb call 96) (Outcomes.of_matrix10 (GalileanMatrices.compose_jacobian_other left right))
-    (cond (eqb call 97) (Outcomes.of_act_jacobian (GalileanMatrices.act_jacobian_self left right))
-    (cond (eqb call 98) (Outcomes.of_hat (GalileanMatrices.hat left))
-    (cond (eqb call 99) (Outcomes.of_matrix10 (GalileanMatrices.small_adj left))
-    []))))))))
+unfoldable pub matrix_call : Request → Option (List ℕ)
+matrix_call r =
+    cond (eqb r.call 91) (Some (Outcomes.of (λ m. m) 36 (Ok (Algebra.generator r.extra))))
+    (cond (eqb r.call 92) (Some (Outcomes.of (λ m. m) 25 (Galilean.matrix r.left.now)))
+    (cond (eqb r.call 93) (Some (Outcomes.of TenRows.values 100 (Generic.adjoint group TenRows.values r.left.now)))
+    (cond (eqb r.call 94) (Some (Outcomes.of TenRows.values 100 (Generic.inverse_jacobian group TenRows.values r.left.now)))
+    (cond (eqb r.call 95) (Some (Outcomes.of TenRows.values 100 (Generic.compose_jacobian_self group TenRows.values r.left.now r.right.now)))
+    (cond (eqb r.call 96) (Some (Outcomes.of TenRows.values 100 (Generic.compose_jacobian_other group TenRows.values r.left.now r.right.now)))
+    (cond (eqb r.call 97) (Some (Outcomes.of (λ m. m) 30 (Generic.act_jacobian_self group (λ m. m) r.left.now r.right.now)))
+    (cond (eqb r.call 98) (Some (Outcomes.of (λ m. m) 36 (Generic.hat tangents (λ m. m) r.left.now)))
+    (cond (eqb r.call 99) (Some (Outcomes.of TenRows.values 100 (Generic.small_adj tangents TenRows.values r.left.now)))
+    None))))))))
 
 -- plus of an element and a tangent, and minus of two elements, from either side
-unfoldable pub plus_call : ℕ → List Float → List Float → ℕ → List ℕ
-plus_call call left right extra =
-    cond (eqb call 100) (Outcomes.of_element (GalileanGroup.right_plus left right))
-    (cond (eqb call 101) (Outcomes.of_matrix10 (GalileanGroup.right_plus_jacobian_self left right))
-    (cond (eqb call 102) (Outcomes.of_element (GalileanGroup.left_plus left right))
-    (cond (eqb call 103) (Outcomes.of_matrix10 (GalileanGroup.left_plus_jacobian_self left right))
-    (cond (eqb call 104) (Outcomes.of_tangent (GalileanGroup.right_minus left right))
-    (cond (eqb call 105) (Outcomes.of_tangent (GalileanGroup.left_minus left right))
-    [])))))
+unfoldable pub plus_call : Request → Option (List ℕ)
+plus_call r =
+    cond (eqb r.call 100) (Some (Outcomes.of Elements.coeffs 0 (Generic.right_plus group tangents Elements.coeffs r.left.now r.right.now)))
+    (cond (eqb r.call 101) (Some (Outcomes.of TenRows.values 100 (Generic.right_plus_jacobian_self group tangents TenRows.values r.left.now r.right.now)))
+    (cond (eqb r.call 102) (Some (Outcomes.of Elements.coeffs 0 (Generic.left_plus group tangents Elements.coeffs r.left.now r.right.now)))
+    (cond (eqb r.call 103) (Some (Outcomes.of TenRows.values 100 (Generic.left_plus_jacobian_self group tangents TenRows.values r.left.now r.right.now)))
+    (cond (eqb r.call 104) (Some (Outcomes.of Tangents.coeffs 0 (Generic.right_minus group Tangents.coeffs r.left.now r.right.now)))
+    (cond (eqb r.call 105) (Some (Outcomes.of Tangents.coeffs 0 (Generic.left_minus group Tangents.coeffs r.left.now r.right.now)))
+    None)))))
 
 -- what leads from one element to another; plus and minus of elements by their short names
-unfoldable pub between_call : ℕ → List Float → List Float → ℕ → List ℕ
-between_call call left right extra =
-    cond (eqb call 106) (Outcomes.of_element (GalileanGroup.between left right))
-    (cond (eqb call 107) (Outcomes.of_matrix10 (GalileanGroup.between_jacobian_self left right))
-    (cond (eqb call 108) (Outcomes.of_matrix10 (GalileanMatrices.compose_jacobian_other left right))
-    (cond (eqb call 109) (Outcomes.of_element (GalileanGroup.right_plus left right))
-    (cond (eqb call 110) (Outcomes.of_matrix10 (GalileanGroup.right_plus_jacobian_self left right))
-    (cond (eqb call 111) (Outcomes.of_tangent (GalileanGroup.right_minus left right))
-    [])))))
+unfoldable pub between_call : Request → Option (List ℕ)
+between_call r =
+    cond (eqb r.call 106) (Some (Outcomes.of Elements.coeffs 0 (Generic.between group Elements.coeffs r.left.now r.right.now)))
+    (cond (eqb r.call 107) (Some (Outcomes.of TenRows.values 100 (Generic.between_jacobian_self group TenRows.values TenRows.neg r.left.now r.right.now)))
+    (cond (eqb r.call 108) (Some (Outcomes.of TenRows.values 100 (Generic.compose_jacobian_other group TenRows.values r.left.now r.right.now)))
+    (cond (eqb r.call 109) (Some (Outcomes.of Elements.coeffs 0 (Generic.right_plus group tangents Elements.coeffs r.left.now r.right.now)))
+    (cond (eqb r.call 110) (Some (Outcomes.of TenRows.values 100 (Generic.right_plus_jacobian_self group tangents TenRows.values r.left.now r.right.now)))
+    (cond (eqb r.call 111) (Some (Outcomes.of Tangents.coeffs 0 (Generic.right_minus group Tangents.coeffs r.left.now r.right.now)))
+    None)))))
 
-unfoldable pub answer : ℕ → List Float → List Float → ℕ → List ℕ
-answer call left right extra =
-    cond (ltb call 79) (element_call call left right extra)
-    (cond (ltb call 85) (log_call call left right extra)
-    (cond (ltb call 91) (tangent_call call left right extra)
-    (cond (ltb call 100) (matrix_call call left right extra)
-    (cond (ltb call 106) (plus_call call left right extra)
-    (between_call call left right extra)))))
+unfoldable pub answer : Request → Option (List ℕ)
+answer r =
+    cond (ltb r.call 79) (element_call r)
+    (cond (ltb r.call 85) (log_call r)
+    (cond (ltb r.call 91) (tangent_call r)
+    (cond (ltb r.call 100) (matrix_call r)
+    (cond (ltb r.call 106) (plus_call r)
+    (between_call r)))))

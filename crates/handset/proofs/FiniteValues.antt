@@ -1,23 +1,20 @@
 -- The values that are stored are finite: every answer that is an element has finite values. Assumes nothing.
 use Prim.Native.Nat.{ℕ, zero, suc, ◌*◌}
-use mathlib.Core.Path.{◌≡◌, refl, sym, ap, ◌∙◌}
+use mathlib.Core.Path.{◌≡◌, refl, ap, ◌∙◌}
 use mathlib.Core.Bool.{Bool, true, false}
 use mathlib.Core.List.{List}
 use lib.ListN.{take, drop}
 use lib.Ieee.{Float}
-use Rattle.checks.specs.Checks.{tolerance, all_finite, check_param_block}
-use Rattle.checks.specs.declared.Check.{Check}
-use Rattle.checks.specs.declared.Check.TheVariants.{Passed, Refused as Check-as-Refused}
+use Rattle.std.specs.Prelude.{Ok, Err}
+use Rattle.checks.specs.Checks.{Check, and_then, both, tolerance, all_finite, check_param_block}
 use Rattle.checks.proofs.Passed.{passed-finite}
 use Rattle.sgal3.specs.Elements as Elements
 use Rattle.sgal3.specs.Elements.{element_of}
 use Rattle.sgal3.specs.declared.Element.{Element}
 use Rattle.element_bytes.specs.Bytes.{values_at}
-use Rattle.element_bytes.proofs.Values.{eleven}
+use Rattle.element_bytes.proofs.Values.{element-values}
 use Rattle.byte_chain.specs.Steps.{chain_after}
-use Rattle.sgal3_composition.specs.Calls.{of_check, check_element, element_answer, first_refusal, compose_answers, chain_from}
-use Rattle.sgal3_composition.specs.declared.Answer.{Answer}
-use Rattle.sgal3_composition.specs.declared.Answer.TheVariants.{Done, Refused}
+use Rattle.sgal3_composition.specs.Calls.{Answer, check_element, element_answer, compose_answers, chain_from}
 use Rattle.sgal3_composition.proofs.Answers.{finished, overflowed}
 use Rattle.handset.specs.Steps.{Finite}
 
@@ -30,11 +27,11 @@ answer-finite e = go (all_finite (Elements.coeffs e)) refl
     go false h = rw (overflowed e h) tt
 
 composed-finite : (a b : Answer) → Finite (compose_answers a b)
-unfolding Finite compose_answers first_refusal
-composed-finite (Done a) (Done b) = answer-finite (Elements.compose a b)
-composed-finite (Done a) (Refused s) = tt
-composed-finite (Refused r) (Done b) = tt
-composed-finite (Refused r) (Refused s) = tt
+unfolding Finite compose_answers both
+composed-finite (Ok a) (Ok b) = answer-finite (Elements.compose a b)
+composed-finite (Ok a) (Err s) = tt
+composed-finite (Err r) (Ok b) = tt
+composed-finite (Err r) (Err s) = tt
 
 chain-finite : (n : ℕ) (s : List Float) (held : Answer) → Finite held → Finite (chain_from held n s)
 unfolding chain_from
@@ -45,13 +42,13 @@ block-finite : (s : List ℕ) (i : ℕ) (t : Float) → Finite (check_element (v
 unfolding Finite check_element
 block-finite s i t = go (check_param_block (values_at 11 s i) 11 3 t) refl
   where
-    same : all_finite (Elements.coeffs (element_of (values_at 11 s i))) ≡ all_finite (values_at 11 s i)
-    same = unfold Elements.coeffs element_of in ap (λ (v : List Float). all_finite (Elements.coeffs (element_of v))) (eleven s i) ∙ sym (ap all_finite (eleven s i))
-
-    go : (c : Check) → check_param_block (values_at 11 s i) 11 3 t ≡ c → Finite (of_check (element_of (values_at 11 s i)) c)
-    go Passed e = same ∙ passed-finite (values_at 11 s i) 11 3 t e
-    go (Check-as-Refused r) e = tt
+    go : (c : Check) → check_param_block (values_at 11 s i) 11 3 t ≡ c → Finite (and_then c (λ _. Ok (element_of (values_at 11 s i))))
+    go (Ok passed) e = ap all_finite (element-values s i) ∙ passed-finite (values_at 11 s i) 11 3 t e
+    go (Err r) e = tt
 
 pub after-finite : (f : List ℕ) (n : ℕ) (s : List ℕ) → Finite (chain_after f n s)
 unfolding chain_after
 after-finite f n s = chain-finite n (values_at (n * 11) s 0) _ (block-finite f 0 tolerance)
+
+-- what is stored is finite
+pub ruleset finite_values = (after-finite, answer-finite, passed-finite)

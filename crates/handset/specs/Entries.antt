@@ -1,12 +1,12 @@
 -- The four C entries: what each answers, and what the output then holds. Definitions only.
-use Rattle.std.specs.Prelude.{ℕ, ◌≡◌, cond, List, eqb, length}
+use Rattle.std.specs.Prelude.{ℕ, ◌≡◌, cond, List, eqb, length, Ok, Err}
+use Rattle.checks.specs.Checks.{Check, passed, and_then, both}
 use Rattle.checks.specs.declared.Refusal.TheVariants.{Length}
 use Rattle.element_bytes.specs.Bytes.{value_bytes}
 use Rattle.byte_chain.specs.Blocks as Blocks
 use Rattle.sgal3_composition.specs.Calls as Calls
+use Rattle.sgal3_composition.specs.Calls.{Answer}
 use Rattle.sgal3_composition.specs.Outcomes.{element}
-use Rattle.sgal3_composition.specs.declared.Answer.{Answer}
-use Rattle.sgal3_composition.specs.declared.Answer.TheVariants.{Refused}
 
 -- the number of an answer's outcome: 0, or the refusal's
 unfoldable pub number : Answer → ℕ
@@ -22,9 +22,13 @@ pub record Answered (answer : Answer) (before after : List ℕ) (r : ℕ) : Type
   pub output : after ≡ written answer before
   pub untouched : (r ≡ 0 → ⊥) → after ≡ before
 
+-- a block of another length than 88 is refused
+unfoldable pub check_output : List ℕ → Check
+check_output out = cond (eqb (length out) 88) passed (Err (Length 88 (length out)))
+
 -- an output block counts as one more block, after the inputs
 unfoldable pub into : List ℕ → Answer → Answer
-into out answer = cond (eqb (length out) 88) answer (Calls.first_refusal answer (Refused (Length 88 (length out))))
+into out answer = and_then (both answer (check_output out)) (λ p. Ok p.0)
 
 unfoldable pub compose : List ℕ → List ℕ → List ℕ → Answer
 compose left right out = into out (Calls.compose_answers (Blocks.check_block left) (Blocks.check_block right))

@@ -1,15 +1,14 @@
 -- What the private functions of the entries require. Definitions only.
-use Rattle.std.specs.Prelude.{ℕ, ◌≡◌, true, List, [], ◌∷◌}
+use Rattle.std.specs.Prelude.{ℕ, ◌≡◌, true, List, [], ◌∷◌, Ok, Err}
 use Rattle.checks.specs.Checks.{all_finite}
 use Rattle.sgal3.specs.Elements as Elements
-use Rattle.sgal3_composition.specs.declared.Answer.{Answer}
-use Rattle.sgal3_composition.specs.declared.Answer.TheVariants.{Done, Refused}
+use Rattle.sgal3_composition.specs.Calls.{Answer}
 use Rattle.handset.specs.Entries.{number, written}
 
 -- the element of an answer, where there is one, has finite values
 unfoldable pub Finite : Answer → Type 0
-Finite (Done e) = all_finite (Elements.coeffs e) ≡ true
-Finite (Refused r) = Unit {0}
+Finite (Ok e) = all_finite (Elements.coeffs e) ≡ true
+Finite (Err r) = Unit {0}
 
 -- the number of an answer, and the output after it
 abbrev pub Stored : Answer → List ℕ → List ℕ → ℕ → Type 0

@@ -7,37 +7,32 @@ ghost use Rattle.byte_chain.specs.Steps.{chain_after};
 ghost use Rattle.handset.specs.Entries as Entries;
 ghost use Rattle.handset.specs.Steps as Steps;
 
-use checks::Check;
-use sgal3_composition::Answer;
+use checks::Refusal;
+use manifold::LieGroup;
+use sgal3::Element;
 
-// 0 for an answer, or the refusal's number.
-fn number(answer: Answer) -> u32
-    ensures { result ≡ Entries.number answer }
-{
-    let Answer::Refused(r) = answer else {
-        return 0;
-    };
-    r.number()
-}
-
-// The number of an answer. An element is stored, and a refusal leaves out as it is.
-fn finish(answer: Answer, out: &mut [u8]) -> u32
+// 0 for an answer, or the refusal's number. An element is stored, and a refusal leaves out as it is.
+#[tactic(auto, unfolding(crate::specs::Steps::Finite), using(crate::proofs::Outputs::stored))]
+fn finish(answer: Result<Element, Refusal>, out: &mut [u8]) -> u32
     requires out_len { length out.old ≡ 88 }
     requires finite { Steps.Finite answer }
     ensures { Steps.Stored answer out.old out.new result }
 {
-    let Answer::Done(e) = answer else {
-        return number(answer);
-    };
-    element_bytes::put_element(out, e);
-    0
+    match answer {
+        Ok(e) => {
+            element_bytes::put_element(out, e);
+            0
+        }
+        Err(r) => r.number(),
+    }
 }
 
 // The block `first`, or the one held where that is empty.
+#[tactic(auto, using(crate::proofs::Outputs::firsts))]
 fn first_or<'a>(first: &'a [u8], held: &'a [u8]) -> &'a [u8]
     ensures { result.now ≡ Steps.first_or first.now held.now }
 {
-    if first.len() == 0 {
+    if first.is_empty() {
         return held;
     }
     first
@@ -45,6 +40,7 @@ fn first_or<'a>(first: &'a [u8], held: &'a [u8]) -> &'a [u8]
 
 // The number of what `chain_blocks` answers, and the answer stored: for compose, for compose in place, where `first` is empty and the output
 // holds the first block, and for the chain. A function of its own, so that no answer goes through memory.
+#[tactic(auto, using(crate::proofs::FiniteValues::finite_values))]
 fn store_chain(first: &[u8], blocks: &[u8], out: &mut [u8]) -> u32
     requires out_len { length (Steps.first_or first.now out.old) ≡ 88 }
     requires out_len_2 { length out.old ≡ 88 }
@@ -56,6 +52,8 @@ fn store_chain(first: &[u8], blocks: &[u8], out: &mut [u8]) -> u32
     finish(byte_chain::chain_blocks(one, s), out)
 }
 
+// The entries return the scope's numbers, as the C interface has them: 1 for a wrong length, before anything is read.
+#[tactic(auto, using(crate::proofs::Outputs::firsts))]
 pub fn sgal3_compose(left: &[u8], right: &[u8], out: &mut [u8]) -> u32
     ensures { Entries.Answered (Entries.compose left.now right.now out.old) out.old out.new result }
 {
@@ -72,6 +70,7 @@ pub fn sgal3_compose(left: &[u8], right: &[u8], out: &mut [u8]) -> u32
 }
 
 // The step after the element held, stored over it; a refusal leaves it as it was.
+#[tactic(auto, unfolding(crate::specs::Steps::first_or))]
 pub fn sgal3_compose_in_place(held: &mut [u8], step: &[u8]) -> u32
     ensures { Entries.Answered (Entries.compose_in_place held.old step.now) held.old held.new result }
 {
@@ -84,6 +83,7 @@ pub fn sgal3_compose_in_place(held: &mut [u8], step: &[u8]) -> u32
     store_chain(b"", step, held)
 }
 
+#[tactic(auto, unfolding(sgal3_composition::specs::Calls::element_answer, manifold::specs::Answers::answered), using(crate::proofs::FiniteValues::finite_values))]
 pub fn sgal3_inverse(block: &[u8], out: &mut [u8]) -> u32
     ensures { Entries.Answered (Entries.inverse block.now out.old) out.old out.new result }
 {
@@ -93,15 +93,16 @@ pub fn sgal3_inverse(block: &[u8], out: &mut [u8]) -> u32
     if block.len() != 88 {
         return 1;
     }
-    let Check::Refused(r) = element_bytes::check_values(block, 0) else {
-        return finish(
-            sgal3_composition::element_answer(element_bytes::element(block, 0).inverse()),
-            out,
-        );
-    };
-    r.number()
+    if let Err(r) = element_bytes::check_values(block, 0) {
+        return r.number();
+    }
+    finish(
+        manifold::answered(element_bytes::element(block, 0).inverse()),
+        out,
+    )
 }
 
+#[tactic(auto, unfolding(crate::specs::Steps::first_or))]
 pub fn sgal3_chain(blocks: &[u8], out: &mut [u8]) -> u32
     ensures { Entries.Answered (Entries.chain blocks.now out.old) out.old out.new result }
 {

@@ -14,6 +14,7 @@ pub struct Vec3 {
     pub z: f64,
 }
 
+// Methods and not std's operators, so that each contract stands beside its formula; add and sub are alike but for theirs.
 impl Vec3 {
     #[tactic(auto, unfolding(crate::specs::Vectors::zero, law::specs::Vector::zero))]
     pub fn zero() -> Vec3
@@ -295,6 +296,7 @@ impl Mat3 {
         }
     }
 
+    // Add and sub are alike but for the operation of the rows, as those of vectors are.
     #[tactic(auto, unfolding(crate::specs::Matrices::add, crate::specs::Vectors::add, law::specs::Matrix::add))]
     pub fn add(self, other: Mat3) -> Mat3
         ensures { result ≡ Matrices.add self other }

@@ -1,2 +1,4 @@
-pub mod Rotations
-pub mod Galilean
+pub mod Answers
+pub mod Group
+pub mod Operations
+pub mod Outcomes

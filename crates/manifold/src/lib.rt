@@ -1,144 +1,341 @@
-// The group-wide operations of lib.rs: plus and minus on the right and on the left, between, and their Jacobians; for SO(3), then
-// for SGal(3). Functions and not methods: the types are other crates'.
+// The Lie groups of lib.rs as traits: what SO(3) and SGal(3) have in common. An operation by value answers any input; the calls on blocks,
+// with their refusals, are in `manifold_blocks`.
 #![tactic(auto)]
 
-ghost use Rattle.std.specs.Prelude.{◌≡◌};
-ghost use Rattle.manifold.specs.Rotations as Rotations;
-ghost use Rattle.manifold.specs.Galilean as Galilean;
+ghost use Rattle.std.specs.Prelude.{◌≡◌, ◌+◌, ◌≤◌, List, [], ◌∷◌, length, Float};
+ghost use Rattle.checks.specs.Checks.{all_finite};
+ghost use Rattle.linear.specs.Matrices as Matrices;
+ghost use Rattle.manifold.specs.Answers as Answers;
+ghost use Rattle.manifold.specs.Group as Group;
+ghost use Rattle.manifold.specs.Operations as Operations;
+ghost use Rattle.sgal3_rows.specs.TenRows as TenRows;
 
-use linear::Mat3;
-use so3::{Element, Tangent};
+use checks::Refusal;
+use linear::{Mat3, Vec3};
 
-#[tactic(auto, unfolding(crate::specs::Rotations::right_plus))]
-pub fn so3_right_plus(a: Element, t: Tangent) -> Element
-    ensures { result ≡ Rotations.right_plus a t }
-{
-    a.compose(t.exp())
+// ---- What is answered
+
+// What a call may answer: values that can be tested.
+pub trait Values: Copy {
+    ghost values: { Self → List Float };
+
+    fn is_finite(&self) -> bool
+        ensures { result ≡ all_finite (values self.now) };
 }
 
-#[tactic(auto, unfolding(crate::specs::Rotations::right_plus_jacobian_self))]
-pub fn so3_right_plus_jacobian_self(a: Element, t: Tangent) -> Mat3
-    ensures { result ≡ Rotations.right_plus_jacobian_self a t }
+// The vector of the three values from place i on.
+#[tactic(auto, unfolding(crate::specs::Answers::vector_at))]
+pub fn vector_at(s: &[f64], i: usize) -> Vec3
+    requires { i + 3 ≤ length s.now }
+    ensures { result ≡ Answers.vector_at s.now i }
 {
-    a.compose_jacobian_self(t.exp())
+    Vec3 {
+        x: s[i],
+        y: s[i + 1],
+        z: s[i + 2],
+    }
 }
 
-#[tactic(auto, unfolding(crate::specs::Rotations::left_plus))]
-pub fn so3_left_plus(a: Element, t: Tangent) -> Element
-    ensures { result ≡ Rotations.left_plus a t }
-{
-    t.exp().compose(a)
+impl Values for Vec3 {
+    ghost values = { Answers.vector_values };
+
+    fn is_finite(&self) -> bool {
+        checks::all_finite(&[self.x, self.y, self.z])
+    }
 }
 
-#[tactic(auto, unfolding(crate::specs::Rotations::left_plus_jacobian_tangent))]
-pub fn so3_left_plus_jacobian_tangent(a: Element, t: Tangent) -> Mat3
-    ensures { result ≡ Rotations.left_plus_jacobian_tangent a t }
-{
-    a.inverse().adjoint().mul(t.right_jacobian())
+impl Values for Mat3 {
+    ghost values = { Answers.matrix_values };
+
+    fn is_finite(&self) -> bool {
+        let a = self.row0;
+        let b = self.row1;
+        let c = self.row2;
+        checks::all_finite(&[a.x, a.y, a.z, b.x, b.y, b.z, c.x, c.y, c.z])
+    }
 }
 
-#[tactic(auto, unfolding(crate::specs::Rotations::between))]
-pub fn so3_between(a: Element, b: Element) -> Element
-    ensures { result ≡ Rotations.between a b }
-{
-    a.inverse().compose(b)
+impl Values for f64 {
+    ghost values = { λ x. x ∷ [] };
+
+    fn is_finite(&self) -> bool {
+        checks::all_finite(&[*self])
+    }
 }
 
-#[tactic(auto, unfolding(crate::specs::Rotations::between_jacobian_self))]
-pub fn so3_between_jacobian_self(a: Element, b: Element) -> Mat3
-    ensures { result ≡ Rotations.between_jacobian_self a b }
-{
-    so3_between(a, b).inverse().adjoint().neg()
+// A matrix listed by row.
+impl<const N: usize> Values for [f64; N] {
+    ghost values = { λ m. m };
+
+    fn is_finite(&self) -> bool {
+        checks::all_finite(self)
+    }
 }
 
-#[tactic(auto, unfolding(crate::specs::Rotations::right_minus))]
-pub fn so3_right_minus(a: Element, b: Element) -> Tangent
-    ensures { result ≡ Rotations.right_minus a b }
-{
-    so3_between(b, a).log()
+impl Values for [[f64; 10]; 10] {
+    ghost values = { TenRows.values };
+
+    fn is_finite(&self) -> bool {
+        sgal3_rows::all_finite(self)
+    }
 }
 
-#[tactic(auto, unfolding(crate::specs::Rotations::right_minus_jacobian_self))]
-pub fn so3_right_minus_jacobian_self(a: Element, b: Element) -> Mat3
-    ensures { result ≡ Rotations.right_minus_jacobian_self a b }
+// An answer whose values are finite, or the refusal.
+#[tactic(auto, unfolding(crate::specs::Answers::answered))]
+pub fn answered<A: Values>(a: A) -> Result<A, Refusal>
+    ensures { result ≡ Answers.answered A.values a }
 {
-    so3_right_minus(a, b).right_jacobian_inv()
+    if a.is_finite() {
+        Ok(a)
+    } else {
+        Err(Refusal::Overflow)
+    }
 }
 
-#[tactic(auto, unfolding(crate::specs::Rotations::right_minus_jacobian_other))]
-pub fn so3_right_minus_jacobian_other(a: Element, b: Element) -> Mat3
-    ensures { result ≡ Rotations.right_minus_jacobian_other a b }
+// ---- Where a series is left
+
+// Above the limit, SMALL_ANGLE_THRESHOLD of lib.rs, a series is left.
+#[tactic(auto, unfolding(crate::specs::Answers::leaves_series))]
+pub fn leaves_series(squared: f64) -> bool
+    ensures { result ≡ Answers.leaves_series squared }
 {
-    so3_right_minus(a, b).left_jacobian_inv().neg()
+    squared > 1e-10
 }
 
-#[tactic(auto, unfolding(crate::specs::Rotations::left_minus))]
-pub fn so3_left_minus(a: Element, b: Element) -> Tangent
-    ensures { result ≡ Rotations.left_minus a b }
+// The turn: refused where a series is left.
+#[tactic(auto, unfolding(crate::specs::Answers::within))]
+pub fn within(leaves: bool) -> Result<(), Refusal>
+    ensures { result ≡ Answers.within leaves }
 {
-    a.compose(b.inverse()).log()
+    if leaves { Err(Refusal::Turn) } else { Ok(()) }
 }
 
-#[tactic(auto, unfolding(crate::specs::Rotations::left_minus_jacobian_self))]
-pub fn so3_left_minus_jacobian_self(a: Element, b: Element) -> Mat3
-    ensures { result ≡ Rotations.left_minus_jacobian_self a b }
-{
-    so3_left_minus(a, b).right_jacobian_inv().mul(b.adjoint())
+// ---- The groups
+
+// A Jacobian.
+pub trait Jacobian: Values {
+    ghost negated: { Self → Self };
+
+    fn neg(self) -> Self
+        ensures { result ≡ negated self };
 }
 
-#[tactic(auto, unfolding(crate::specs::Rotations::left_minus_jacobian_other))]
-pub fn so3_left_minus_jacobian_other(a: Element, b: Element) -> Mat3
-    ensures { result ≡ Rotations.left_minus_jacobian_other a b }
-{
-    so3_left_minus_jacobian_self(a, b).neg()
+impl Jacobian for Mat3 {
+    ghost negated = { Matrices.neg };
+
+    fn neg(self) -> Mat3 {
+        Mat3::neg(self)
+    }
 }
 
-// ---- SGal(3)
-#[tactic(auto, unfolding(crate::specs::Galilean::right_plus))]
-pub fn sgal3_right_plus(a: sgal3::Element, t: sgal3::Tangent) -> sgal3::Element
-    ensures { result ≡ Galilean.right_plus a t }
-{
-    a.compose(t.exp())
+impl Jacobian for [[f64; 10]; 10] {
+    ghost negated = { TenRows.neg };
+
+    fn neg(self) -> [[f64; 10]; 10] {
+        sgal3_rows::neg(self)
+    }
 }
 
-#[tactic(auto, unfolding(crate::specs::Galilean::right_plus_jacobian_self))]
-pub fn sgal3_right_plus_jacobian_self(a: sgal3::Element, t: sgal3::Tangent) -> [[f64; 10]; 10]
-    ensures { result ≡ Galilean.right_plus_jacobian_self a t }
-{
-    sgal3_matrices::compose_jacobian_self(a, t.exp())
+pub trait Tangent: Values {
+    type Group: Values;
+
+    type JacobianMatrix: Jacobian;
+
+    type LieAlgebra: Values;
+
+    ghost tangents: { Group.Tangents Self.Group Self Self.JacobianMatrix Self.LieAlgebra };
+
+    // How many values a block has.
+    fn dim() -> usize
+        ensures { result ≡ tangents.dim };
+
+    fn tangent_of(s: &[f64]) -> Self
+        requires { length s.now ≡ tangents.dim }
+        ensures { result ≡ tangents.tangent_of s.now };
+
+    // The tangent of a block that is not refused. Here and in LieGroup under the source's names: TryFrom would be one more implementation for each
+    // group, where this is once for all.
+    #[tactic(auto, unfolding(crate::specs::Group::try_from_slice), using(checks::proofs::Passed::values_passed))]
+    fn try_from_slice(s: &[f64]) -> Result<Self, Refusal>
+        ensures { result ≡ Group.try_from_slice tangents s.now }
+    {
+        checks::check_values(s, Self::dim())?;
+        Ok(Self::tangent_of(s))
+    }
+
+    fn zero() -> Self
+        ensures { result ≡ tangents.zero };
+
+    fn exp(self) -> Self::Group
+        ensures { result ≡ tangents.exp self };
+
+    fn leaves_series(self) -> bool
+        ensures { result ≡ tangents.leaves_series self };
+
+    fn hat(self) -> Self::LieAlgebra
+        ensures { result ≡ tangents.hat self };
+
+    // The generator of place i of a tangent; the zero matrix where there is no such place.
+    fn generator(i: usize) -> Self::LieAlgebra
+        ensures { result ≡ tangents.generator i };
+
+    fn small_adj(self) -> Self::JacobianMatrix
+        ensures { result ≡ tangents.small_adj self };
+
+    fn lie_bracket(self, other: Self) -> Self
+        ensures { result ≡ tangents.lie_bracket self other };
+
+    fn normalize(self) -> Self
+        ensures { result ≡ tangents.normalize self };
+
+    fn normalized(self) -> Self
+        ensures { result ≡ tangents.normalized self };
 }
 
-#[tactic(auto, unfolding(crate::specs::Galilean::left_plus))]
-pub fn sgal3_left_plus(a: sgal3::Element, t: sgal3::Tangent) -> sgal3::Element
-    ensures { result ≡ Galilean.left_plus a t }
-{
-    t.exp().compose(a)
-}
+pub trait LieGroup: Values {
+    type TangentVector: Tangent<Group = Self, JacobianMatrix = Self::JacobianMatrix>;
 
-#[tactic(auto, unfolding(crate::specs::Galilean::between))]
-pub fn sgal3_between(a: sgal3::Element, b: sgal3::Element) -> sgal3::Element
-    ensures { result ≡ Galilean.between a b }
-{
-    a.inverse().compose(b)
-}
+    type JacobianMatrix: Jacobian;
 
-#[tactic(auto, unfolding(crate::specs::Galilean::between_jacobian_self))]
-pub fn sgal3_between_jacobian_self(a: sgal3::Element, b: sgal3::Element) -> [[f64; 10]; 10]
-    ensures { result ≡ Galilean.between_jacobian_self a b }
-{
-    sgal3_rows::neg(sgal3_matrices::adjoint(sgal3_between(a, b).inverse()))
-}
+    type ActJacobian: Values;
 
-#[tactic(auto, unfolding(crate::specs::Galilean::right_minus))]
-pub fn sgal3_right_minus(a: sgal3::Element, b: sgal3::Element) -> sgal3::Tangent
-    ensures { result ≡ Galilean.right_minus a b }
-{
-    sgal3_between(b, a).log()
-}
+    ghost group: { Group.Group Self Self.TangentVector Self.JacobianMatrix Self.ActJacobian };
 
-#[tactic(auto, unfolding(crate::specs::Galilean::left_minus))]
-pub fn sgal3_left_minus(a: sgal3::Element, b: sgal3::Element) -> sgal3::Tangent
-    ensures { result ≡ Galilean.left_minus a b }
-{
-    a.compose(b.inverse()).log()
+    // How many values a block has, and the place of its quaternion.
+    fn dim() -> usize
+        ensures { result ≡ group.dim };
+
+    fn quaternion() -> usize
+        ensures value { result ≡ group.quaternion }
+        ensures fits { group.quaternion + 4 ≤ group.dim };
+
+    fn element_of(s: &[f64]) -> Self
+        requires { length s.now ≡ group.dim }
+        ensures { result ≡ group.element_of s.now };
+
+    // Any values: refuses a wrong length only.
+    #[tactic(auto, unfolding(crate::specs::Group::from_param_slice), using(checks::proofs::Passed::length_passed))]
+    fn from_param_slice(s: &[f64]) -> Result<Self, Refusal>
+        ensures { result ≡ Group.from_param_slice group s.now }
+    {
+        checks::check_length(s, Self::dim())?;
+        Ok(Self::element_of(s))
+    }
+
+    // Refuses 1 to 3.
+    #[tactic(auto, unfolding(crate::specs::Group::validate_params))]
+    fn validate_params(s: &[f64]) -> Result<(), Refusal>
+        ensures { result ≡ Group.validate_params group s.now }
+    {
+        checks::check_param_block(s, Self::dim(), Self::quaternion(), checks::tolerance())
+    }
+
+    // The element of a block that is not refused.
+    #[tactic(auto, unfolding(crate::specs::Group::try_from_param_slice, crate::specs::Group::validate_params), using(checks::proofs::Passed::passed_length))]
+    fn try_from_param_slice(s: &[f64]) -> Result<Self, Refusal>
+        ensures { result ≡ Group.try_from_param_slice group s.now }
+    {
+        Self::validate_params(s)?;
+        Ok(Self::element_of(s))
+    }
+
+    fn compose(self, other: Self) -> Self
+        ensures { result ≡ group.compose self other };
+
+    fn inverse(self) -> Self
+        ensures { result ≡ group.inverse self };
+
+    fn log(self) -> Self::TangentVector
+        ensures { result ≡ group.log self };
+
+    fn leaves_series(self) -> bool
+        ensures { result ≡ group.leaves_series self };
+
+    fn act(self, vector: Vec3) -> Vec3
+        ensures { result ≡ group.act self vector };
+
+    fn rotation_matrix(self) -> Mat3
+        ensures { result ≡ group.rotation_matrix self };
+
+    fn normalize(self) -> Self
+        ensures { result ≡ group.normalize self };
+
+    fn is_valid(self, tolerance: f64) -> bool
+        ensures { result ≡ group.is_valid self tolerance };
+
+    fn jacobian_identity() -> Self::JacobianMatrix
+        ensures { result ≡ group.jacobian_identity };
+
+    fn adjoint(self) -> Self::JacobianMatrix
+        ensures { result ≡ group.adjoint self };
+
+    fn inverse_jacobian(self) -> Self::JacobianMatrix
+        ensures { result ≡ group.inverse_jacobian self };
+
+    // Of compose with respect to self.
+    fn compose_jacobian_self(self, other: Self) -> Self::JacobianMatrix
+        ensures { result ≡ group.compose_jacobian_self self other };
+
+    // Of act with respect to self.
+    fn act_jacobian_self(self, vector: Vec3) -> Self::ActJacobian
+        ensures { result ≡ group.act_jacobian_self self vector };
+
+    // ---- Plus, minus and between, the same in every group
+
+    #[tactic(auto, unfolding(crate::specs::Operations::right_plus))]
+    fn right_plus(self, t: Self::TangentVector) -> Self
+        ensures { result ≡ Operations.right_plus group Self.TangentVector.tangents self t }
+    {
+        self.compose(t.exp())
+    }
+
+    #[tactic(auto, unfolding(crate::specs::Operations::right_plus_jacobian_self))]
+    fn right_plus_jacobian_self(self, t: Self::TangentVector) -> Self::JacobianMatrix
+        ensures { result ≡ Operations.right_plus_jacobian_self group Self.TangentVector.tangents self t }
+    {
+        self.compose_jacobian_self(t.exp())
+    }
+
+    #[tactic(auto, unfolding(crate::specs::Operations::left_plus))]
+    fn left_plus(self, t: Self::TangentVector) -> Self
+        ensures { result ≡ Operations.left_plus group Self.TangentVector.tangents self t }
+    {
+        t.exp().compose(self)
+    }
+
+    // What leads from self to other.
+    #[tactic(auto, unfolding(crate::specs::Operations::between))]
+    fn between(self, other: Self) -> Self
+        ensures { result ≡ Operations.between group self other }
+    {
+        self.inverse().compose(other)
+    }
+
+    #[tactic(auto, unfolding(crate::specs::Operations::between_jacobian_self))]
+    fn between_jacobian_self(self, other: Self) -> Self::JacobianMatrix
+        ensures { result ≡ Operations.between_jacobian_self group Self.JacobianMatrix.negated self other }
+    {
+        self.between(other).inverse().adjoint().neg()
+    }
+
+    #[tactic(auto, unfolding(crate::specs::Operations::left_between))]
+    fn left_between(self, other: Self) -> Self
+        ensures { result ≡ Operations.left_between group self other }
+    {
+        self.compose(other.inverse())
+    }
+
+    #[tactic(auto, unfolding(crate::specs::Operations::right_minus))]
+    fn right_minus(self, other: Self) -> Self::TangentVector
+        ensures { result ≡ Operations.right_minus group self other }
+    {
+        other.between(self).log()
+    }
+
+    #[tactic(auto, unfolding(crate::specs::Operations::left_minus))]
+    fn left_minus(self, other: Self) -> Self::TangentVector
+        ensures { result ≡ Operations.left_minus group self other }
+    {
+        self.left_between(other).log()
+    }
 }

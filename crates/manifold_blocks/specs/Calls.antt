@@ -1,55 +1,150 @@
--- The group-wide calls on blocks of SO(3), each with every refusal. Definitions only.
-use Rattle.std.specs.Prelude.{List, Float}
-use Rattle.linear.specs.Matrices as Matrices
-use Rattle.so3.specs.Tangents as Tangents
-use Rattle.so3_answers.specs.Answers.{element_answer, tangent_answer, matrix_answer, refused_matrix}
-use Rattle.so3_inputs.specs.Inputs.{on_elements, on_element_and_vector, check_elements}
-use Rattle.so3_answers.specs.declared.Answer.{Answer}
-use Rattle.so3_answers.specs.declared.Answer.TheVariants.{Refused as Answer-as-Refused}
-use Rattle.so3_answers.specs.declared.TangentAnswer.{TangentAnswer}
-use Rattle.so3_answers.specs.declared.TangentAnswer.TheVariants.{Refused as TangentAnswer-as-Refused}
-use Rattle.so3_answers.specs.declared.MatrixAnswer.{MatrixAnswer}
-use Rattle.manifold.specs.Rotations as Rotations
-use Rattle.manifold_turns.specs.Turns.{check_plus, check_right_minus, check_right_minus_jacobian, check_left_minus, check_left_minus_jacobian}
+-- The calls on blocks, of any group and its tangents: each checks its blocks, and answers with the operation of its name or with the refusal that is
+-- tried first. `values` lists the values of what is answered. Definitions only.
+use Rattle.std.specs.Prelude.{Bool, List, get_or, Result, Ok, Float}
+use Rattle.std.specs.Float.{nan}
+use Rattle.checks.specs.Checks.{and_then, both, check_values}
+use Rattle.checks.specs.declared.Refusal.{Refusal}
+use Rattle.linear.specs.declared.Vec3.{Vec3}
+use Rattle.linear.specs.declared.Mat3.{Mat3}
+use Rattle.manifold.specs.Answers.{answered, within, vector_at, vector_values, matrix_values}
+use Rattle.manifold.specs.Group.{Group, Tangents, from_param_slice, try_from_param_slice, try_from_slice}
+use Rattle.manifold.specs.Operations as Operations
 
-unfoldable pub right_plus : List Float → List Float → Answer
-right_plus block tangent = on_element_and_vector Answer-as-Refused (λ a p. element_answer (Rotations.right_plus a (record { theta = p }))) (check_plus block tangent)
+-- a vector's three values
+unfoldable pub vector : List Float → Result Vec3 Refusal
+vector s = and_then (check_values s 3) (λ _. Ok (vector_at s 0))
 
-unfoldable pub right_plus_jacobian_self : List Float → List Float → MatrixAnswer
-right_plus_jacobian_self block tangent = on_element_and_vector refused_matrix (λ a p. matrix_answer (Rotations.right_plus_jacobian_self a (record { theta = p }))) (check_plus block tangent)
+module _ {G T J P : Type 0} (g : Group G T J P) where
+  -- ---- the element of a block, or of each of two
+  abbrev pub element : List Float → Result G Refusal
+  element s = try_from_param_slice g s
 
-unfoldable pub right_plus_jacobian_tangent : List Float → List Float → MatrixAnswer
-right_plus_jacobian_tangent block tangent = on_element_and_vector refused_matrix (λ a p. matrix_answer (Tangents.right_jacobian (record { theta = p }))) (check_plus block tangent)
+  abbrev pub elements : List Float → List Float → Result (G × G) Refusal
+  elements left right = both (element left) (element right)
 
-unfoldable pub left_plus : List Float → List Float → Answer
-left_plus block tangent = on_element_and_vector Answer-as-Refused (λ a p. element_answer (Rotations.left_plus a (record { theta = p }))) (check_plus block tangent)
+  abbrev pub element_and_vector : List Float → List Float → Result (G × Vec3) Refusal
+  element_and_vector block s = both (element block) (vector s)
 
-unfoldable pub left_plus_jacobian_tangent : List Float → List Float → MatrixAnswer
-left_plus_jacobian_tangent block tangent = on_element_and_vector refused_matrix (λ a p. matrix_answer (Rotations.left_plus_jacobian_tangent a (record { theta = p }))) (check_plus block tangent)
+  -- ---- elements
+  -- any values, and any tolerance
+  unfoldable pub is_valid : List Float → Float → Result Bool Refusal
+  is_valid block tolerance = and_then (from_param_slice g block) (λ a. Ok (g.is_valid a tolerance))
 
-unfoldable pub left_plus_jacobian_self : List Float → List Float → MatrixAnswer
-left_plus_jacobian_self block tangent = on_element_and_vector refused_matrix (λ a p. matrix_answer (Matrices.identity)) (check_plus block tangent)
+  unfoldable pub inverse_answer : (G → List Float) → Result G Refusal → Result G Refusal
+  inverse_answer values answer = and_then answer (λ a. answered values (g.inverse a))
 
-unfoldable pub right_minus : List Float → List Float → TangentAnswer
-right_minus left right = on_elements TangentAnswer-as-Refused (λ a b. tangent_answer (Rotations.right_minus a b)) (check_right_minus left right)
+  unfoldable pub inverse : (G → List Float) → List Float → Result G Refusal
+  inverse values block = inverse_answer values (element block)
 
-unfoldable pub right_minus_jacobian_self : List Float → List Float → MatrixAnswer
-right_minus_jacobian_self left right = on_elements refused_matrix (λ a b. matrix_answer (Rotations.right_minus_jacobian_self a b)) (check_right_minus_jacobian left right)
+  -- of two answers, or of a chain so far and a block
+  unfoldable pub compose_answers : (G → List Float) → Result G Refusal → Result G Refusal → Result G Refusal
+  compose_answers values left right = and_then (both left right) (λ p. answered values (g.compose p.0 p.1))
 
-unfoldable pub right_minus_jacobian_other : List Float → List Float → MatrixAnswer
-right_minus_jacobian_other left right = on_elements refused_matrix (λ a b. matrix_answer (Rotations.right_minus_jacobian_other a b)) (check_right_minus_jacobian left right)
+  unfoldable pub compose : (G → List Float) → List Float → List Float → Result G Refusal
+  compose values left right = compose_answers values (element left) (element right)
 
-unfoldable pub left_minus : List Float → List Float → TangentAnswer
-left_minus left right = on_elements TangentAnswer-as-Refused (λ a b. tangent_answer (Rotations.left_minus a b)) (check_left_minus left right)
+  unfoldable pub normalize : (G → List Float) → List Float → Result G Refusal
+  normalize values block = and_then (element block) (λ a. answered values (g.normalize a))
 
-unfoldable pub left_minus_jacobian_self : List Float → List Float → MatrixAnswer
-left_minus_jacobian_self left right = on_elements refused_matrix (λ a b. matrix_answer (Rotations.left_minus_jacobian_self a b)) (check_left_minus_jacobian left right)
+  -- refused where log would leave its series
+  unfoldable pub within_log : List Float → Result G Refusal
+  within_log block = and_then (element block) (λ a. and_then (within (g.leaves_series a)) (λ _. Ok a))
 
-unfoldable pub left_minus_jacobian_other : List Float → List Float → MatrixAnswer
-left_minus_jacobian_other left right = on_elements refused_matrix (λ a b. matrix_answer (Rotations.left_minus_jacobian_other a b)) (check_left_minus_jacobian left right)
+  unfoldable pub log : (T → List Float) → List Float → Result T Refusal
+  log values block = and_then (within_log block) (λ a. answered values (g.log a))
 
-unfoldable pub between : List Float → List Float → Answer
-between left right = on_elements Answer-as-Refused (λ a b. element_answer (Rotations.between a b)) (check_elements left right)
+  unfoldable pub act : List Float → List Float → Result Vec3 Refusal
+  act block s = and_then (element_and_vector block s) (λ p. answered vector_values (g.act p.0 p.1))
 
-unfoldable pub between_jacobian_self : List Float → List Float → MatrixAnswer
-between_jacobian_self left right = on_elements refused_matrix (λ a b. matrix_answer (Rotations.between_jacobian_self a b)) (check_elements left right)
+  unfoldable pub rotation_matrix : List Float → Result Mat3 Refusal
+  rotation_matrix block = and_then (element block) (λ a. answered matrix_values (g.rotation_matrix a))
+
+  -- ---- their Jacobians
+  unfoldable pub adjoint : (J → List Float) → List Float → Result J Refusal
+  adjoint values block = and_then (element block) (λ a. answered values (g.adjoint a))
+
+  unfoldable pub inverse_jacobian : (J → List Float) → List Float → Result J Refusal
+  inverse_jacobian values block = and_then (element block) (λ a. answered values (g.inverse_jacobian a))
+
+  -- of compose with respect to its left operand, and to its right one
+  unfoldable pub compose_jacobian_self : (J → List Float) → List Float → List Float → Result J Refusal
+  compose_jacobian_self values left right = and_then (elements left right) (λ p. answered values (g.compose_jacobian_self p.0 p.1))
+
+  unfoldable pub compose_jacobian_other : (J → List Float) → List Float → List Float → Result J Refusal
+  compose_jacobian_other values left right = and_then (elements left right) (λ _. answered values g.jacobian_identity)
+
+  -- of act with respect to the element, and to the vector
+  unfoldable pub act_jacobian_self : (P → List Float) → List Float → List Float → Result P Refusal
+  act_jacobian_self values block s = and_then (element_and_vector block s) (λ p. answered values (g.act_jacobian_self p.0 p.1))
+
+  unfoldable pub act_jacobian_vector : List Float → List Float → Result Mat3 Refusal
+  act_jacobian_vector block s = and_then (element_and_vector block s) (λ p. answered matrix_values (g.rotation_matrix p.0))
+
+  -- ---- between, and minus: refused where the log of the difference would leave its series
+  unfoldable pub between : (G → List Float) → List Float → List Float → Result G Refusal
+  between values left right = and_then (elements left right) (λ p. answered values (Operations.between g p.0 p.1))
+
+  unfoldable pub between_jacobian_self : (J → List Float) → (J → J) → List Float → List Float → Result J Refusal
+  between_jacobian_self values neg left right = and_then (elements left right) (λ p. answered values (Operations.between_jacobian_self g neg p.0 p.1))
+
+  unfoldable pub within_right_minus : List Float → List Float → Result (G × G) Refusal
+  within_right_minus left right = and_then (elements left right) (λ p. and_then (within (g.leaves_series (Operations.between g p.1 p.0))) (λ _. Ok p))
+
+  unfoldable pub within_left_minus : List Float → List Float → Result (G × G) Refusal
+  within_left_minus left right = and_then (elements left right) (λ p. and_then (within (g.leaves_series (Operations.left_between g p.0 p.1))) (λ _. Ok p))
+
+  unfoldable pub right_minus : (T → List Float) → List Float → List Float → Result T Refusal
+  right_minus values left right = and_then (within_right_minus left right) (λ p. answered values (Operations.right_minus g p.0 p.1))
+
+  unfoldable pub left_minus : (T → List Float) → List Float → List Float → Result T Refusal
+  left_minus values left right = and_then (within_left_minus left right) (λ p. answered values (Operations.left_minus g p.0 p.1))
+
+module _ {G T J A : Type 0} (h : Tangents G T J A) where
+  -- ---- tangents
+  abbrev pub tangent : List Float → Result T Refusal
+  tangent s = try_from_slice h s
+
+  abbrev pub two_tangents : List Float → List Float → Result (T × T) Refusal
+  two_tangents left right = both (tangent left) (tangent right)
+
+  -- refused where exp would leave its series
+  unfoldable pub within_exp : List Float → Result T Refusal
+  within_exp block = and_then (tangent block) (λ t. and_then (within (h.leaves_series t)) (λ _. Ok t))
+
+  unfoldable pub exp : (G → List Float) → List Float → Result G Refusal
+  exp values block = and_then (within_exp block) (λ t. answered values (h.exp t))
+
+  unfoldable pub hat : (A → List Float) → List Float → Result A Refusal
+  hat values block = and_then (tangent block) (λ t. answered values (h.hat t))
+
+  unfoldable pub small_adj : (J → List Float) → List Float → Result J Refusal
+  small_adj values block = and_then (tangent block) (λ t. answered values (h.small_adj t))
+
+  unfoldable pub lie_bracket : (T → List Float) → List Float → List Float → Result T Refusal
+  lie_bracket values left right = and_then (two_tangents left right) (λ p. answered values (h.lie_bracket p.0 p.1))
+
+  unfoldable pub normalize_tangent : (T → List Float) → List Float → Result T Refusal
+  normalize_tangent values block = and_then (tangent block) (λ t. answered values (h.normalize t))
+
+  unfoldable pub normalized_tangent : (T → List Float) → List Float → Result T Refusal
+  normalized_tangent values block = and_then (tangent block) (λ t. answered values (h.normalized t))
+
+module _ {G T J P A : Type 0} (g : Group G T J P) (h : Tangents G T J A) where
+  -- ---- plus: refused where the exp of its tangent would leave its series
+  abbrev pub element_and_tangent : List Float → List Float → Result (G × T) Refusal
+  element_and_tangent block s = both (element g block) (tangent h s)
+
+  unfoldable pub within_plus : List Float → List Float → Result (G × T) Refusal
+  within_plus block s = and_then (element_and_tangent block s) (λ p. and_then (within (h.leaves_series p.1)) (λ _. Ok p))
+
+  unfoldable pub right_plus : (G → List Float) → List Float → List Float → Result G Refusal
+  right_plus values block s = and_then (within_plus block s) (λ p. answered values (Operations.right_plus g h p.0 p.1))
+
+  unfoldable pub right_plus_jacobian_self : (J → List Float) → List Float → List Float → Result J Refusal
+  right_plus_jacobian_self values block s = and_then (within_plus block s) (λ p. answered values (Operations.right_plus_jacobian_self g h p.0 p.1))
+
+  unfoldable pub left_plus : (G → List Float) → List Float → List Float → Result G Refusal
+  left_plus values block s = and_then (within_plus block s) (λ p. answered values (Operations.left_plus g h p.0 p.1))
+
+  unfoldable pub left_plus_jacobian_self : (J → List Float) → List Float → List Float → Result J Refusal
+  left_plus_jacobian_self values block s = and_then (within_plus block s) (λ _. answered values g.jacobian_identity)

@@ -1,225 +1,412 @@
-// The group-wide calls on blocks, for rotations: plus, minus and between, with their Jacobians. A call refuses 4 where the exp or
-// log in it would leave the series branch, and a Jacobian where one of its own tests would too.
+// The calls on blocks, for any group: an element's values, a tangent's, a vector's three. Each refuses, or answers with the operation of its
+// name. The calls that one group alone has are in `so3_blocks` and `sgal3_blocks`.
 #![tactic(auto)]
 
 ghost use Rattle.std.specs.Prelude.{◌≡◌};
-ghost use Rattle.so3_blocks.specs.Calls as So3;
+ghost use Rattle.linear.specs.Matrices as Matrices;
 ghost use Rattle.manifold_blocks.specs.Calls as Calls;
 
-use linear::Mat3;
-use so3::Tangent;
-use so3_answers::{Answer, MatrixAnswer, TangentAnswer};
-use so3_inputs::{ElementAndVector, Elements};
+use checks::Refusal;
+use linear::{Mat3, Vec3};
+use manifold::{LieGroup, Tangent};
 
-#[tactic(auto, unfolding(crate::specs::Calls::right_plus))]
-pub fn so3_right_plus(block: &[f64], tangent: &[f64]) -> Answer
-    ensures { result ≡ Calls.right_plus block.now tangent.now }
+#[tactic(auto, unfolding(crate::specs::Calls::vector), using(checks::proofs::Passed::values_passed))]
+fn vector(s: &[f64]) -> Result<Vec3, Refusal>
+    ensures { result ≡ Calls.vector s.now }
 {
-    match manifold_turns::check_plus(block, tangent) {
-        ElementAndVector::Done(a, p) => so3_answers::element_answer(manifold::so3_right_plus(
-            a,
-            Tangent { theta: p },
-        )),
-        ElementAndVector::Refused(r) => Answer::Refused(r),
-    }
+    checks::check_values(s, 3)?;
+    Ok(manifold::vector_at(s, 0))
 }
 
-#[tactic(auto, unfolding(crate::specs::Calls::right_plus_jacobian_self))]
-pub fn so3_right_plus_jacobian_self(block: &[f64], tangent: &[f64]) -> MatrixAnswer
-    ensures { result ≡ Calls.right_plus_jacobian_self block.now tangent.now }
+// ---- Elements
+
+pub fn elements<G: LieGroup>(left: &[f64], right: &[f64]) -> Result<(G, G), Refusal>
+    ensures { result ≡ Calls.elements G.group left.now right.now }
 {
-    match manifold_turns::check_plus(block, tangent) {
-        ElementAndVector::Done(a, p) => so3_answers::matrix_answer(
-            manifold::so3_right_plus_jacobian_self(a, Tangent { theta: p }),
-        ),
-        ElementAndVector::Refused(r) => so3_answers::refused_matrix(r),
-    }
+    checks::both(
+        G::try_from_param_slice(left),
+        G::try_from_param_slice(right),
+    )
 }
 
-#[tactic(auto, unfolding(crate::specs::Calls::right_plus_jacobian_tangent))]
-pub fn so3_right_plus_jacobian_tangent(block: &[f64], tangent: &[f64]) -> MatrixAnswer
-    ensures { result ≡ Calls.right_plus_jacobian_tangent block.now tangent.now }
+pub fn element_and_vector<G: LieGroup>(block: &[f64], s: &[f64]) -> Result<(G, Vec3), Refusal>
+    ensures { result ≡ Calls.element_and_vector G.group block.now s.now }
 {
-    match manifold_turns::check_plus(block, tangent) {
-        ElementAndVector::Done(_, p) => so3_answers::matrix_answer(Tangent {
-            theta: p,
-        }.right_jacobian()),
-        ElementAndVector::Refused(r) => so3_answers::refused_matrix(r),
-    }
+    checks::both(G::try_from_param_slice(block), vector(s))
 }
 
-#[tactic(auto, unfolding(crate::specs::Calls::left_plus))]
-pub fn so3_left_plus(block: &[f64], tangent: &[f64]) -> Answer
-    ensures { result ≡ Calls.left_plus block.now tangent.now }
+// Any values, and any tolerance: refuses a wrong length only.
+#[tactic(auto, unfolding(crate::specs::Calls::is_valid))]
+pub fn is_valid<G: LieGroup>(block: &[f64], tolerance: f64) -> Result<bool, Refusal>
+    ensures { result ≡ Calls.is_valid G.group block.now tolerance }
 {
-    match manifold_turns::check_plus(block, tangent) {
-        ElementAndVector::Done(a, p) => so3_answers::element_answer(manifold::so3_left_plus(
-            a,
-            Tangent { theta: p },
-        )),
-        ElementAndVector::Refused(r) => Answer::Refused(r),
-    }
+    let a = G::from_param_slice(block)?;
+    Ok(a.is_valid(tolerance))
 }
 
-#[tactic(auto, unfolding(crate::specs::Calls::left_plus_jacobian_tangent))]
-pub fn so3_left_plus_jacobian_tangent(block: &[f64], tangent: &[f64]) -> MatrixAnswer
-    ensures { result ≡ Calls.left_plus_jacobian_tangent block.now tangent.now }
+#[tactic(auto, unfolding(crate::specs::Calls::inverse))]
+pub fn inverse<G: LieGroup>(block: &[f64]) -> Result<G, Refusal>
+    ensures { result ≡ Calls.inverse G.group G.values block.now }
 {
-    match manifold_turns::check_plus(block, tangent) {
-        ElementAndVector::Done(a, p) => so3_answers::matrix_answer(
-            manifold::so3_left_plus_jacobian_tangent(a, Tangent { theta: p }),
-        ),
-        ElementAndVector::Refused(r) => so3_answers::refused_matrix(r),
-    }
+    inverse_answer(G::try_from_param_slice(block))
 }
 
-#[tactic(auto, unfolding(crate::specs::Calls::left_plus_jacobian_self))]
-pub fn so3_left_plus_jacobian_self(block: &[f64], tangent: &[f64]) -> MatrixAnswer
-    ensures { result ≡ Calls.left_plus_jacobian_self block.now tangent.now }
+// Inverts the answer of a block.
+#[tactic(auto, unfolding(crate::specs::Calls::inverse_answer))]
+pub fn inverse_answer<G: LieGroup>(answer: Result<G, Refusal>) -> Result<G, Refusal>
+    ensures { result ≡ Calls.inverse_answer G.group G.values answer }
 {
-    match manifold_turns::check_plus(block, tangent) {
-        ElementAndVector::Done(_, _) => so3_answers::matrix_answer(Mat3::identity()),
-        ElementAndVector::Refused(r) => so3_answers::refused_matrix(r),
-    }
+    manifold::answered(answer?.inverse())
 }
 
-#[tactic(auto, unfolding(crate::specs::Calls::right_minus))]
-pub fn so3_right_minus(left: &[f64], right: &[f64]) -> TangentAnswer
-    ensures { result ≡ Calls.right_minus left.now right.now }
+// Composes the answers of two blocks, or of a chain so far and a block.
+#[tactic(auto, unfolding(crate::specs::Calls::compose_answers))]
+pub fn compose_answers<G: LieGroup>(
+    left: Result<G, Refusal>,
+    right: Result<G, Refusal>,
+) -> Result<G, Refusal>
+    ensures { result ≡ Calls.compose_answers G.group G.values left right }
 {
-    match manifold_turns::check_right_minus(left, right) {
-        Elements::Done(a, b) => so3_answers::tangent_answer(manifold::so3_right_minus(a, b)),
-        Elements::Refused(r) => TangentAnswer::Refused(r),
-    }
+    let (a, b) = checks::both(left, right)?;
+    manifold::answered(a.compose(b))
 }
 
-#[tactic(auto, unfolding(crate::specs::Calls::right_minus_jacobian_self))]
-pub fn so3_right_minus_jacobian_self(left: &[f64], right: &[f64]) -> MatrixAnswer
-    ensures { result ≡ Calls.right_minus_jacobian_self left.now right.now }
+#[tactic(auto, unfolding(crate::specs::Calls::compose))]
+pub fn compose<G: LieGroup>(left: &[f64], right: &[f64]) -> Result<G, Refusal>
+    ensures { result ≡ Calls.compose G.group G.values left.now right.now }
 {
-    match manifold_turns::check_right_minus_jacobian(left, right) {
-        Elements::Done(a, b) => so3_answers::matrix_answer(manifold::so3_right_minus_jacobian_self(
-            a, b,
-        )),
-        Elements::Refused(r) => so3_answers::refused_matrix(r),
-    }
+    let a = G::try_from_param_slice(left);
+    let b = G::try_from_param_slice(right);
+    compose_answers(a, b)
 }
 
-#[tactic(auto, unfolding(crate::specs::Calls::right_minus_jacobian_other))]
-pub fn so3_right_minus_jacobian_other(left: &[f64], right: &[f64]) -> MatrixAnswer
-    ensures { result ≡ Calls.right_minus_jacobian_other left.now right.now }
+#[tactic(auto, unfolding(crate::specs::Calls::normalize))]
+pub fn normalize<G: LieGroup>(block: &[f64]) -> Result<G, Refusal>
+    ensures { result ≡ Calls.normalize G.group G.values block.now }
 {
-    match manifold_turns::check_right_minus_jacobian(left, right) {
-        Elements::Done(a, b) => so3_answers::matrix_answer(manifold::so3_right_minus_jacobian_other(
-            a, b,
-        )),
-        Elements::Refused(r) => so3_answers::refused_matrix(r),
-    }
+    let a = G::try_from_param_slice(block)?;
+    manifold::answered(a.normalize())
 }
 
-#[tactic(auto, unfolding(crate::specs::Calls::left_minus))]
-pub fn so3_left_minus(left: &[f64], right: &[f64]) -> TangentAnswer
-    ensures { result ≡ Calls.left_minus left.now right.now }
+// The element, if log stays in its series there.
+#[tactic(auto, unfolding(crate::specs::Calls::within_log))]
+pub fn within_log<G: LieGroup>(block: &[f64]) -> Result<G, Refusal>
+    ensures { result ≡ Calls.within_log G.group block.now }
 {
-    match manifold_turns::check_left_minus(left, right) {
-        Elements::Done(a, b) => so3_answers::tangent_answer(manifold::so3_left_minus(a, b)),
-        Elements::Refused(r) => TangentAnswer::Refused(r),
-    }
+    let a = G::try_from_param_slice(block)?;
+    manifold::within(a.leaves_series())?;
+    Ok(a)
 }
 
-#[tactic(auto, unfolding(crate::specs::Calls::left_minus_jacobian_self))]
-pub fn so3_left_minus_jacobian_self(left: &[f64], right: &[f64]) -> MatrixAnswer
-    ensures { result ≡ Calls.left_minus_jacobian_self left.now right.now }
+#[tactic(auto, unfolding(crate::specs::Calls::log))]
+pub fn log<G: LieGroup>(block: &[f64]) -> Result<G::TangentVector, Refusal>
+    ensures { result ≡ Calls.log G.group G.TangentVector.values block.now }
 {
-    match manifold_turns::check_left_minus_jacobian(left, right) {
-        Elements::Done(a, b) => so3_answers::matrix_answer(manifold::so3_left_minus_jacobian_self(
-            a, b,
-        )),
-        Elements::Refused(r) => so3_answers::refused_matrix(r),
-    }
+    manifold::answered(within_log::<G>(block)?.log())
 }
 
-#[tactic(auto, unfolding(crate::specs::Calls::left_minus_jacobian_other))]
-pub fn so3_left_minus_jacobian_other(left: &[f64], right: &[f64]) -> MatrixAnswer
-    ensures { result ≡ Calls.left_minus_jacobian_other left.now right.now }
+// Vee is log.
+pub fn vee<G: LieGroup>(block: &[f64]) -> Result<G::TangentVector, Refusal>
+    ensures { result ≡ Calls.log G.group G.TangentVector.values block.now }
 {
-    match manifold_turns::check_left_minus_jacobian(left, right) {
-        Elements::Done(a, b) => so3_answers::matrix_answer(manifold::so3_left_minus_jacobian_other(
-            a, b,
-        )),
-        Elements::Refused(r) => so3_answers::refused_matrix(r),
-    }
+    log::<G>(block)
 }
+
+#[tactic(auto, unfolding(crate::specs::Calls::act))]
+pub fn act<G: LieGroup>(block: &[f64], vector: &[f64]) -> Result<Vec3, Refusal>
+    ensures { result ≡ Calls.act G.group block.now vector.now }
+{
+    let (a, p) = element_and_vector::<G>(block, vector)?;
+    manifold::answered(a.act(p))
+}
+
+#[tactic(auto, unfolding(crate::specs::Calls::rotation_matrix))]
+pub fn rotation_matrix<G: LieGroup>(block: &[f64]) -> Result<Mat3, Refusal>
+    ensures { result ≡ Calls.rotation_matrix G.group block.now }
+{
+    let a = G::try_from_param_slice(block)?;
+    manifold::answered(a.rotation_matrix())
+}
+
+// ---- Their Jacobians. These calls, as those above and below, are alike but for the operation that each names in its last line; with the operation as
+// a parameter the contract would be the caller's to state.
+
+#[tactic(auto, unfolding(crate::specs::Calls::adjoint))]
+pub fn adjoint<G: LieGroup>(block: &[f64]) -> Result<G::JacobianMatrix, Refusal>
+    ensures { result ≡ Calls.adjoint G.group G.JacobianMatrix.values block.now }
+{
+    let a = G::try_from_param_slice(block)?;
+    manifold::answered(a.adjoint())
+}
+
+#[tactic(auto, unfolding(crate::specs::Calls::inverse_jacobian))]
+pub fn inverse_jacobian<G: LieGroup>(block: &[f64]) -> Result<G::JacobianMatrix, Refusal>
+    ensures { result ≡ Calls.inverse_jacobian G.group G.JacobianMatrix.values block.now }
+{
+    let a = G::try_from_param_slice(block)?;
+    manifold::answered(a.inverse_jacobian())
+}
+
+// Of compose with respect to its left operand.
+#[tactic(auto, unfolding(crate::specs::Calls::compose_jacobian_self))]
+pub fn compose_jacobian_self<G: LieGroup>(
+    left: &[f64],
+    right: &[f64],
+) -> Result<G::JacobianMatrix, Refusal>
+    ensures { result ≡ Calls.compose_jacobian_self G.group G.JacobianMatrix.values left.now right.now }
+{
+    let (a, b) = elements::<G>(left, right)?;
+    manifold::answered(a.compose_jacobian_self(b))
+}
+
+// Of compose with respect to its right operand.
+#[tactic(auto, unfolding(crate::specs::Calls::compose_jacobian_other))]
+pub fn compose_jacobian_other<G: LieGroup>(
+    left: &[f64],
+    right: &[f64],
+) -> Result<G::JacobianMatrix, Refusal>
+    ensures { result ≡ Calls.compose_jacobian_other G.group G.JacobianMatrix.values left.now right.now }
+{
+    elements::<G>(left, right)?;
+    manifold::answered(G::jacobian_identity())
+}
+
+// Of act with respect to the element.
+#[tactic(auto, unfolding(crate::specs::Calls::act_jacobian_self))]
+pub fn act_jacobian_self<G: LieGroup>(
+    block: &[f64],
+    vector: &[f64],
+) -> Result<G::ActJacobian, Refusal>
+    ensures { result ≡ Calls.act_jacobian_self G.group G.ActJacobian.values block.now vector.now }
+{
+    let (a, p) = element_and_vector::<G>(block, vector)?;
+    manifold::answered(a.act_jacobian_self(p))
+}
+
+// Of act with respect to the vector.
+#[tactic(auto, unfolding(crate::specs::Calls::act_jacobian_vector))]
+pub fn act_jacobian_vector<G: LieGroup>(block: &[f64], vector: &[f64]) -> Result<Mat3, Refusal>
+    ensures { result ≡ Calls.act_jacobian_vector G.group block.now vector.now }
+{
+    let (a, _) = element_and_vector::<G>(block, vector)?;
+    manifold::answered(a.rotation_matrix())
+}
+
+// ---- Tangents
+
+pub fn tangents<T: Tangent>(left: &[f64], right: &[f64]) -> Result<(T, T), Refusal>
+    ensures { result ≡ Calls.two_tangents T.tangents left.now right.now }
+{
+    checks::both(T::try_from_slice(left), T::try_from_slice(right))
+}
+
+// The tangent, if exp stays in its series there.
+#[tactic(auto, unfolding(crate::specs::Calls::within_exp))]
+pub fn within_exp<T: Tangent>(tangent: &[f64]) -> Result<T, Refusal>
+    ensures { result ≡ Calls.within_exp T.tangents tangent.now }
+{
+    let t = T::try_from_slice(tangent)?;
+    manifold::within(t.leaves_series())?;
+    Ok(t)
+}
+
+#[tactic(auto, unfolding(crate::specs::Calls::exp))]
+pub fn exp<T: Tangent>(tangent: &[f64]) -> Result<T::Group, Refusal>
+    ensures { result ≡ Calls.exp T.tangents T.Group.values tangent.now }
+{
+    manifold::answered(within_exp::<T>(tangent)?.exp())
+}
+
+#[tactic(auto, unfolding(crate::specs::Calls::hat))]
+pub fn hat<T: Tangent>(tangent: &[f64]) -> Result<T::LieAlgebra, Refusal>
+    ensures { result ≡ Calls.hat T.tangents T.LieAlgebra.values tangent.now }
+{
+    let t = T::try_from_slice(tangent)?;
+    manifold::answered(t.hat())
+}
+
+#[tactic(auto, unfolding(crate::specs::Calls::small_adj))]
+pub fn small_adj<T: Tangent>(tangent: &[f64]) -> Result<T::JacobianMatrix, Refusal>
+    ensures { result ≡ Calls.small_adj T.tangents T.JacobianMatrix.values tangent.now }
+{
+    let t = T::try_from_slice(tangent)?;
+    manifold::answered(t.small_adj())
+}
+
+#[tactic(auto, unfolding(crate::specs::Calls::lie_bracket))]
+pub fn lie_bracket<T: Tangent>(left: &[f64], right: &[f64]) -> Result<T, Refusal>
+    ensures { result ≡ Calls.lie_bracket T.tangents T.values left.now right.now }
+{
+    let (t, u) = tangents::<T>(left, right)?;
+    manifold::answered(t.lie_bracket(u))
+}
+
+#[tactic(auto, unfolding(crate::specs::Calls::normalize_tangent))]
+pub fn normalize_tangent<T: Tangent>(tangent: &[f64]) -> Result<T, Refusal>
+    ensures { result ≡ Calls.normalize_tangent T.tangents T.values tangent.now }
+{
+    let t = T::try_from_slice(tangent)?;
+    manifold::answered(t.normalize())
+}
+
+#[tactic(auto, unfolding(crate::specs::Calls::normalized_tangent))]
+pub fn normalized_tangent<T: Tangent>(tangent: &[f64]) -> Result<T, Refusal>
+    ensures { result ≡ Calls.normalized_tangent T.tangents T.values tangent.now }
+{
+    let t = T::try_from_slice(tangent)?;
+    manifold::answered(t.normalized())
+}
+
+// ---- Between, and minus: it refuses 4 where the log of the difference would leave its series
 
 #[tactic(auto, unfolding(crate::specs::Calls::between))]
-pub fn so3_between(left: &[f64], right: &[f64]) -> Answer
-    ensures { result ≡ Calls.between left.now right.now }
+pub fn between<G: LieGroup>(left: &[f64], right: &[f64]) -> Result<G, Refusal>
+    ensures { result ≡ Calls.between G.group G.values left.now right.now }
 {
-    match so3_inputs::check_elements(left, right) {
-        Elements::Done(a, b) => so3_answers::element_answer(manifold::so3_between(a, b)),
-        Elements::Refused(r) => Answer::Refused(r),
-    }
+    let (a, b) = elements::<G>(left, right)?;
+    manifold::answered(a.between(b))
 }
 
 #[tactic(auto, unfolding(crate::specs::Calls::between_jacobian_self))]
-pub fn so3_between_jacobian_self(left: &[f64], right: &[f64]) -> MatrixAnswer
-    ensures { result ≡ Calls.between_jacobian_self left.now right.now }
+pub fn between_jacobian_self<G: LieGroup>(
+    left: &[f64],
+    right: &[f64],
+) -> Result<G::JacobianMatrix, Refusal>
+    ensures { result ≡ Calls.between_jacobian_self G.group G.JacobianMatrix.values G.JacobianMatrix.negated left.now right.now }
 {
-    match so3_inputs::check_elements(left, right) {
-        Elements::Done(a, b) => so3_answers::matrix_answer(manifold::so3_between_jacobian_self(
-            a, b,
-        )),
-        Elements::Refused(r) => so3_answers::refused_matrix(r),
-    }
+    let (a, b) = elements::<G>(left, right)?;
+    manifold::answered(a.between_jacobian_self(b))
 }
 
 // As compose's with respect to its right operand.
-pub fn so3_between_jacobian_other(left: &[f64], right: &[f64]) -> MatrixAnswer
-    ensures { result ≡ So3.compose_jacobian_other left.now right.now }
+pub fn between_jacobian_other<G: LieGroup>(
+    left: &[f64],
+    right: &[f64],
+) -> Result<G::JacobianMatrix, Refusal>
+    ensures { result ≡ Calls.compose_jacobian_other G.group G.JacobianMatrix.values left.now right.now }
 {
-    so3_blocks::compose_jacobian_other(left, right)
+    compose_jacobian_other::<G>(left, right)
 }
 
-// Plus is the one on the right.
-#[tactic(auto, unfolding(crate::specs::Calls::right_plus))]
-pub fn so3_plus(block: &[f64], tangent: &[f64]) -> Answer
-    ensures { result ≡ Calls.right_plus block.now tangent.now }
+// The elements, if the log of their difference stays in its series; on the right, and on the left.
+#[tactic(auto, unfolding(crate::specs::Calls::within_right_minus))]
+pub fn within_right_minus<G: LieGroup>(left: &[f64], right: &[f64]) -> Result<(G, G), Refusal>
+    ensures { result ≡ Calls.within_right_minus G.group left.now right.now }
 {
-    so3_right_plus(block, tangent)
+    let (a, b) = elements::<G>(left, right)?;
+    manifold::within(b.between(a).leaves_series())?;
+    Ok((a, b))
 }
 
-#[tactic(auto, unfolding(crate::specs::Calls::right_plus_jacobian_self))]
-pub fn so3_plus_jacobian_self(block: &[f64], tangent: &[f64]) -> MatrixAnswer
-    ensures { result ≡ Calls.right_plus_jacobian_self block.now tangent.now }
+#[tactic(auto, unfolding(crate::specs::Calls::within_left_minus))]
+pub fn within_left_minus<G: LieGroup>(left: &[f64], right: &[f64]) -> Result<(G, G), Refusal>
+    ensures { result ≡ Calls.within_left_minus G.group left.now right.now }
 {
-    so3_right_plus_jacobian_self(block, tangent)
+    let (a, b) = elements::<G>(left, right)?;
+    manifold::within(a.left_between(b).leaves_series())?;
+    Ok((a, b))
 }
 
-#[tactic(auto, unfolding(crate::specs::Calls::right_plus_jacobian_tangent))]
-pub fn so3_plus_jacobian_tangent(block: &[f64], tangent: &[f64]) -> MatrixAnswer
-    ensures { result ≡ Calls.right_plus_jacobian_tangent block.now tangent.now }
+#[tactic(auto, unfolding(crate::specs::Calls::right_minus))]
+pub fn right_minus<G: LieGroup>(left: &[f64], right: &[f64]) -> Result<G::TangentVector, Refusal>
+    ensures { result ≡ Calls.right_minus G.group G.TangentVector.values left.now right.now }
 {
-    so3_right_plus_jacobian_tangent(block, tangent)
+    let (a, b) = within_right_minus::<G>(left, right)?;
+    manifold::answered(a.right_minus(b))
+}
+
+#[tactic(auto, unfolding(crate::specs::Calls::left_minus))]
+pub fn left_minus<G: LieGroup>(left: &[f64], right: &[f64]) -> Result<G::TangentVector, Refusal>
+    ensures { result ≡ Calls.left_minus G.group G.TangentVector.values left.now right.now }
+{
+    let (a, b) = within_left_minus::<G>(left, right)?;
+    manifold::answered(a.left_minus(b))
 }
 
 // Minus is the one on the right.
-#[tactic(auto, unfolding(crate::specs::Calls::right_minus))]
-pub fn so3_minus(left: &[f64], right: &[f64]) -> TangentAnswer
-    ensures { result ≡ Calls.right_minus left.now right.now }
+pub fn minus<G: LieGroup>(left: &[f64], right: &[f64]) -> Result<G::TangentVector, Refusal>
+    ensures { result ≡ Calls.right_minus G.group G.TangentVector.values left.now right.now }
 {
-    so3_right_minus(left, right)
+    right_minus::<G>(left, right)
 }
 
-#[tactic(auto, unfolding(crate::specs::Calls::right_minus_jacobian_self))]
-pub fn so3_minus_jacobian_self(left: &[f64], right: &[f64]) -> MatrixAnswer
-    ensures { result ≡ Calls.right_minus_jacobian_self left.now right.now }
+// ---- Plus: it refuses 4 where the exp of its tangent would leave its series
+
+pub fn element_and_tangent<G: LieGroup>(
+    block: &[f64],
+    tangent: &[f64],
+) -> Result<(G, G::TangentVector), Refusal>
+    ensures { result ≡ Calls.element_and_tangent G.group G.TangentVector.tangents block.now tangent.now }
 {
-    so3_right_minus_jacobian_self(left, right)
+    checks::both(
+        G::try_from_param_slice(block),
+        G::TangentVector::try_from_slice(tangent),
+    )
 }
 
-#[tactic(auto, unfolding(crate::specs::Calls::right_minus_jacobian_other))]
-pub fn so3_minus_jacobian_other(left: &[f64], right: &[f64]) -> MatrixAnswer
-    ensures { result ≡ Calls.right_minus_jacobian_other left.now right.now }
+// The element and the tangent, if exp stays in its series.
+#[tactic(auto, unfolding(crate::specs::Calls::within_plus))]
+pub fn within_plus<G: LieGroup>(
+    block: &[f64],
+    tangent: &[f64],
+) -> Result<(G, G::TangentVector), Refusal>
+    ensures { result ≡ Calls.within_plus G.group G.TangentVector.tangents block.now tangent.now }
 {
-    so3_right_minus_jacobian_other(left, right)
+    let checked = element_and_tangent::<G>(block, tangent)?;
+    manifold::within(checked.1.leaves_series())?;
+    Ok(checked)
+}
+
+#[tactic(auto, unfolding(crate::specs::Calls::right_plus))]
+pub fn right_plus<G: LieGroup>(block: &[f64], tangent: &[f64]) -> Result<G, Refusal>
+    ensures { result ≡ Calls.right_plus G.group G.TangentVector.tangents G.values block.now tangent.now }
+{
+    let (a, t) = within_plus::<G>(block, tangent)?;
+    manifold::answered(a.right_plus(t))
+}
+
+#[tactic(auto, unfolding(crate::specs::Calls::right_plus_jacobian_self))]
+pub fn right_plus_jacobian_self<G: LieGroup>(
+    block: &[f64],
+    tangent: &[f64],
+) -> Result<G::JacobianMatrix, Refusal>
+    ensures { result ≡ Calls.right_plus_jacobian_self G.group G.TangentVector.tangents G.JacobianMatrix.values block.now tangent.now }
+{
+    let (a, t) = within_plus::<G>(block, tangent)?;
+    manifold::answered(a.right_plus_jacobian_self(t))
+}
+
+#[tactic(auto, unfolding(crate::specs::Calls::left_plus))]
+pub fn left_plus<G: LieGroup>(block: &[f64], tangent: &[f64]) -> Result<G, Refusal>
+    ensures { result ≡ Calls.left_plus G.group G.TangentVector.tangents G.values block.now tangent.now }
+{
+    let (a, t) = within_plus::<G>(block, tangent)?;
+    manifold::answered(a.left_plus(t))
+}
+
+#[tactic(auto, unfolding(crate::specs::Calls::left_plus_jacobian_self))]
+pub fn left_plus_jacobian_self<G: LieGroup>(
+    block: &[f64],
+    tangent: &[f64],
+) -> Result<G::JacobianMatrix, Refusal>
+    ensures { result ≡ Calls.left_plus_jacobian_self G.group G.TangentVector.tangents G.JacobianMatrix.values block.now tangent.now }
+{
+    within_plus::<G>(block, tangent)?;
+    manifold::answered(G::jacobian_identity())
+}
+
+// Plus is the one on the right.
+pub fn plus<G: LieGroup>(block: &[f64], tangent: &[f64]) -> Result<G, Refusal>
+    ensures { result ≡ Calls.right_plus G.group G.TangentVector.tangents G.values block.now tangent.now }
+{
+    right_plus(block, tangent)
+}
+
+pub fn plus_jacobian_self<G: LieGroup>(
+    block: &[f64],
+    tangent: &[f64],
+) -> Result<G::JacobianMatrix, Refusal>
+    ensures { result ≡ Calls.right_plus_jacobian_self G.group G.TangentVector.tangents G.JacobianMatrix.values block.now tangent.now }
+{
+    right_plus_jacobian_self::<G>(block, tangent)
 }

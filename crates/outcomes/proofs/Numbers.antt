@@ -1,16 +1,17 @@
--- What was put where no call has the number, and which tests a number has passed. Assumes nothing.
-use Prim.Native.Nat.{ℕ, ◌≤◌, zero-le}
-use mathlib.Core.Bool.{true, false}
-use mathlib.Core.Path.{◌≡◌, refl}
-use mathlib.Core.List.{List, []}
-use native.Mathlib.Nat.{le_trans}
-use borrow.Author.Tests.{leb-true, le-ltb}
-use lib.Dec.{leb, ltb}
-use Rattle.outcomes.specs.Outcomes.{Put}
+-- What an answered request is known to leave. Assumes nothing.
+use Prim.Native.Nat.{ℕ, ◌≤◌}
+use mathlib.Core.Path.{◌≡◌, sym, subst, ap, ◌∙◌}
+use mathlib.Core.List.{List}
+use lib.ListN.{length}
+use lib.Seq.{length-sets}
+use Rattle.std.specs.Prelude.{Option, Some, None}
+use Rattle.outcomes.specs.Outcomes.{Answered}
 
-pub none : (l : List ℕ) → Put 0 l l []
-none l = record { returned = refl; stored = refl; fits = zero-le }
+-- the bytes that were put fit where they stand
+fits : (n : ℕ) (before after : List ℕ) (answer : Option (List ℕ)) → Answered (Some n) before after answer → n ≤ length after
+unfolding Answered
+fits n before after (Some bytes) h = subst (λ (k : ℕ). n ≤ k) (sym (ap length h.stored ∙ length-sets before 0 bytes)) h.fits
+fits n before after None h = absurd h
 
--- a number that is not below n is below no smaller bound
-pub past : (a n : ℕ) → n ≤ a → (k : ℕ) → leb k n ≡ true → ltb a k ≡ false
-past a n h k e = le-ltb a k (le_trans (leb-true k n e) h)
+pub answer_fits : (result : Option ℕ) (n : ℕ) (before after : List ℕ) (answer : Option (List ℕ)) → result ≡ Some n → Answered result before after answer → n ≤ length after
+answer_fits result n before after answer e h = fits n before after answer (subst (λ (r : Option ℕ). Answered r before after answer) e h)

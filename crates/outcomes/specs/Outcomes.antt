@@ -1,30 +1,14 @@
 -- The outcome of a call's answer, as bytes. Definitions only.
-use Rattle.std.specs.Prelude.{ℕ, ◌≤◌, ◌≡◌, Bool, cond, List, [], ◌∷◌, ◌++◌, map, length, Float}
+use Rattle.std.specs.Prelude.{ℕ, ◌≤◌, ◌≡◌, Bool, cond, List, [], ◌++◌, map, length, Option, Some, None, Result, Err, Float}
 use Rattle.std.proofs.lemmas.List.Edits.{sets}
 use Rattle.std.specs.Float.{binary64}
 use Rattle.std.specs.Float.Ieee.{to_bits}
 use Rattle.words.specs.Word.{bytes_of, word_bytes}
 use Rattle.checks.specs.Refusals.{Figures, none, lengths, norm}
 use Rattle.checks.specs.Outcomes.{Outcome, outcome}
-use Rattle.checks.specs.declared.Check.{Check}
-use Rattle.checks.specs.declared.Check.TheVariants.{Passed}
-use Rattle.so3_answers.specs.Outcomes as Rotations
-use Rattle.so3_answers.specs.declared.Answer.{Answer as Rotation}
-use Rattle.so3_answers.specs.declared.TangentAnswer.{TangentAnswer as RotationTangent}
-use Rattle.so3_answers.specs.declared.VectorAnswer.{VectorAnswer}
-use Rattle.so3_answers.specs.declared.ValidAnswer.{ValidAnswer}
-use Rattle.so3_answers.specs.declared.MatrixAnswer.{MatrixAnswer as Matrix3Answer}
-use Rattle.sgal3_composition.specs.Outcomes as Elements
-use Rattle.sgal3_composition.specs.declared.Answer.{Answer}
-use Rattle.sgal3_answers.specs.Outcomes as Galilean
-use Rattle.sgal3_answers.specs.declared.TangentAnswer.{TangentAnswer}
-use Rattle.sgal3_answers.specs.declared.NumberAnswer.{NumberAnswer}
-use Rattle.sgal3_answers.specs.declared.CoeffsAnswer.{CoeffsAnswer}
-use Rattle.sgal3_answers.specs.declared.MatrixAnswer.{MatrixAnswer as Matrix5Answer}
-use Rattle.sgal3_answers.specs.declared.HatAnswer.{HatAnswer}
-use Rattle.sgal3_answers.specs.declared.ActJacobianAnswer.{ActJacobianAnswer}
-use Rattle.sgal3_answers.specs.declared.Row10.{Row10}
-use Rattle.sgal3_answers.specs.declared.Matrix10Answer.{Matrix10Answer}
+use Rattle.checks.specs.Checks.{Check}
+use Rattle.checks.specs.declared.Refusal.{Refusal}
+use Rattle.manifold.specs.Outcomes.{beside, valid}
 
 -- ---- words
 unfoldable pub first_figure : Figures → ℕ
@@ -49,7 +33,7 @@ header o n = four o.number (first_figure o.figures) (second_figure o.figures) n
 
 -- the header after a check
 unfoldable pub header_of : Check → ℕ → List ℕ
-header_of c n = header (outcome {A = ℕ} c []) n
+header_of c n = header (outcome {A = ℕ} (λ _. []) [] c) n
 
 -- an outcome whose values are written as words
 unfoldable pub bytes : {A : Type 0} → (A → ℕ) → Outcome A → List ℕ
@@ -64,59 +48,31 @@ of_values o = bytes (to_bits binary64) o
 
 -- ---- what a call answered
 unfoldable pub of_check : Check → List ℕ
-of_check c = of_values (outcome c [])
-
-unfoldable pub of_word : ℕ → List ℕ
-of_word n = bytes (λ (word : ℕ). word) (outcome Passed (n ∷ []))
+of_check c = of_values (outcome (λ _. []) [] c)
 
 -- 1 for yes
 unfoldable pub word_of : Bool → ℕ
 word_of b = cond b 1 0
 
-unfoldable pub of_valid : ValidAnswer → List ℕ
-of_valid a = bytes word_of (Rotations.valid a)
+unfoldable pub of_valid : Result Bool Refusal → List ℕ
+of_valid answer = bytes word_of (valid answer)
 
-unfoldable pub of_rotation : Rotation → List ℕ
-of_rotation a = of_values (Rotations.element a)
+-- any other answer, with n times +0 beside a refusal
+unfoldable pub of : {A : Type 0} → (A → List Float) → ℕ → Result A Refusal → List ℕ
+of values n answer = of_values (beside values n answer)
 
-unfoldable pub of_vector : VectorAnswer → List ℕ
-of_vector a = of_values (Rotations.vector a)
-
-unfoldable pub of_rotation_tangent : RotationTangent → List ℕ
-of_rotation_tangent a = of_values (Rotations.tangent a)
-
-unfoldable pub of_matrix3 : Matrix3Answer → List ℕ
-of_matrix3 a = of_values (Rotations.matrix a)
-
-unfoldable pub of_element : Answer → List ℕ
-of_element a = of_values (Elements.element a)
-
-unfoldable pub of_tangent : TangentAnswer → List ℕ
-of_tangent a = of_values (Galilean.tangent a)
-
-unfoldable pub of_number : NumberAnswer → List ℕ
-of_number a = of_values (Galilean.number a)
-
-abbrev pub of_coeffs : CoeffsAnswer → List ℕ
-of_coeffs a = of_values (Galilean.coeffs a)
-
-abbrev pub of_matrix5 : Matrix5Answer → List ℕ
-of_matrix5 a = of_values (Galilean.matrix a)
-
-abbrev pub of_act_jacobian : ActJacobianAnswer → List ℕ
-of_act_jacobian a = of_values (Galilean.act_jacobian a)
-
-abbrev pub of_hat : HatAnswer → List ℕ
-of_hat a = of_values (Galilean.hat a)
-
-unfoldable pub of_matrix10 : Matrix10Answer → List ℕ
-of_matrix10 a = of_values (Galilean.matrix10 a)
-
-unfoldable pub row_bits : List Row10 → List ℕ
-row_bits rows = bits (Galilean.row_values rows)
+unfoldable pub of_refusal : Refusal → ℕ → List ℕ
+of_refusal r n = of (λ (s : List Float). s) n (Err r)
 
 -- n bytes, at the start of what held `before` and holds `after`; they fit there
 pub record Put (n : ℕ) (before after bytes : List ℕ) : Type 0 where
   pub returned : n ≡ length bytes
   pub stored : after ≡ sets before 0 bytes
   pub fits : n ≤ length before
+
+-- what a request is answered; where there is no such call, nothing is put
+unfoldable pub Answered : Option ℕ → List ℕ → List ℕ → Option (List ℕ) → Type 0
+Answered (Some n) before after (Some bytes) = Put n before after bytes
+Answered (Some n) before after None = ⊥
+Answered None before after (Some bytes) = ⊥
+Answered None before after None = after ≡ before

@@ -1,20 +1,28 @@
 // The outcome of a call, as bytes: little-endian words for the number, two figures, how many values follow, and their bits.
 #![tactic(auto)]
 
-ghost use Rattle.std.specs.Prelude.{◌≡◌, ◌+◌, ◌*◌, ◌≤◌, length};
+ghost use Rattle.std.specs.Prelude.{◌≡◌, ℕ, ◌+◌, ◌*◌, ◌≤◌, length};
 ghost use Rattle.std.proofs.lemmas.List.Edits.{sets};
 ghost use Rattle.checks.specs.Refusals as Refusals;
-ghost use Rattle.checks.specs.Outcomes.{outcome};
+ghost use Rattle.sgal3_rows.specs.TenRows as TenRows;
 ghost use Rattle.outcomes.specs.Outcomes as Outcomes;
 
-use checks::{Check, Refusal};
-use sgal3_answers::{
-    ActJacobianAnswer, CoeffsAnswer, HatAnswer, Matrix10Answer, NumberAnswer, Row10,
-};
-use sgal3_composition::Answer;
-use so3_answers::{ValidAnswer, VectorAnswer};
+use checks::Refusal;
+use linear::{Mat3, Vec3};
+use manifold::Values;
 
-// ---- Words
+// The number of a call, its two blocks, and what some calls take besides. The number is the format's own: an enum of the calls would list them a
+// second time.
+#[derive(Clone, Copy)]
+pub struct Request<'a> {
+    pub call: u64,
+    pub left: &'a [f64],
+    pub right: &'a [f64],
+    pub extra: u64,
+}
+
+// ---- Words. An outcome has two figures; a refusal with fewer has 0 there, as the format says.
+
 #[tactic(auto, unfolding(crate::specs::Outcomes::first_figure, checks::specs::Refusals::figures))]
 fn first_figure(r: Refusal) -> u64
     ensures { result ≡ Outcomes.first_figure (Refusals.figures r) }
@@ -24,10 +32,8 @@ fn first_figure(r: Refusal) -> u64
             expected,
             actual: _,
         } => expected as u64,
-        Refusal::NotFinite => 0,
         Refusal::NotUnit(norm) => words::to_bits(norm),
-        Refusal::Turn => 0,
-        Refusal::Overflow => 0,
+        Refusal::NotFinite | Refusal::Turn | Refusal::Overflow => 0,
     }
 }
 
@@ -40,10 +46,7 @@ fn second_figure(r: Refusal) -> u64
             expected: _,
             actual,
         } => actual as u64,
-        Refusal::NotFinite => 0,
-        Refusal::NotUnit(_) => 0,
-        Refusal::Turn => 0,
-        Refusal::Overflow => 0,
+        Refusal::NotUnit(_) | Refusal::NotFinite | Refusal::Turn | Refusal::Overflow => 0,
     }
 }
 
@@ -64,15 +67,15 @@ fn put_four(out: &mut [u8], a: u64, b: u64, c: u64, d: u64)
     put_pair(out, 16, c, d);
 }
 
-// Before n values.
+// The header of an answer with n values.
 #[tactic(auto, unfolding(crate::specs::Outcomes::header_of, crate::specs::Outcomes::header, crate::specs::Outcomes::first_figure, crate::specs::Outcomes::second_figure, checks::specs::Outcomes::outcome))]
-fn put_header(out: &mut [u8], c: Check, n: u64)
+fn put_header(out: &mut [u8], c: Result<(), Refusal>, n: u64)
     requires { 32 ≤ length out.old }
     ensures { out.new ≡ sets out.old 0 (Outcomes.header_of c n) }
 {
     match c {
-        Check::Passed => put_four(out, 0, 0, 0, n),
-        Check::Refused(r) => put_four(out, r.number() as u64, first_figure(r), second_figure(r), n),
+        Ok(()) => put_four(out, 0, 0, 0, n),
+        Err(r) => put_four(out, r.number() as u64, first_figure(r), second_figure(r), n),
     }
 }
 
@@ -80,237 +83,229 @@ fn put_values(out: &mut [u8], at: usize, values: &[f64])
     requires { at + length values.now * 8 ≤ length out.old }
     ensures { out.new ≡ sets out.old at (Outcomes.bits values.now) }
 {
-    let mut k = 0usize;
-    while k < values.len() {
-        words::put_value(out, at + k * 8, values[k]);
-        k += 1;
+    for (k, x) in values.iter().enumerate() {
+        words::put_value(out, at + k * 8, *x);
     }
 }
 
-// The rows of a 10 by 10 matrix, after the header.
-fn put_row(out: &mut [u8], at: usize, values: &[f64; 10])
-    requires { at + 80 ≤ length out.old }
-    ensures out_after { out.new ≡ sets out.old at (Outcomes.bits values.now) }
-    ensures values_len { length values.now ≡ 10 }
-{
-    put_values(out, at, values);
-}
-
-fn put_rows(out: &mut [u8], rows: [Row10; 10])
-    requires { 832 ≤ length out.old }
-    ensures value { 800 ≡ length (Outcomes.row_bits rows) }
-    ensures out_after { out.new ≡ sets out.old 32 (Outcomes.row_bits rows) }
-{
-    let mut k = 0usize;
-    while k < 10 {
-        let row = rows[k];
-        let values = row.values;
-        put_row(out, 32 + k * 80, &values);
-        k += 1;
-    }
-}
-
-// ---- An outcome: how many bytes it is, and the bytes at the start of out
-fn put_outcome(out: &mut [u8; 832], c: Check, values: &[f64]) -> usize
-    requires { length values.now ≤ 100 }
-    ensures { Outcomes.Put result out.old out.new (Outcomes.of_values (outcome c values.now)) }
-{
-    let n = values.len();
-    put_header(out, c, n as u64);
-    put_values(out, 32, values);
-    32 + n * 8
-}
+// ---- An outcome: how many bytes it is, and the bytes at the start of out. There is no heap, so the buffer is the caller's.
 
 // Without values.
-pub fn put_check(out: &mut [u8; 832], c: Check) -> usize
+pub fn put_check(out: &mut [u8; 832], c: Result<(), Refusal>) -> usize
     ensures { Outcomes.Put result out.old out.new (Outcomes.of_check c) }
 {
     put_header(out, c, 0);
     32
 }
 
-// A yes or no is a word.
+// A yes or no is a word, 1 for yes.
 #[tactic(auto, unfolding(crate::specs::Outcomes::word_of))]
-fn word_of(b: bool) -> u64
-    ensures { result ≡ Outcomes.word_of b }
+pub fn put_valid(out: &mut [u8; 832], answer: Result<bool, Refusal>) -> usize
+    ensures { Outcomes.Put result out.old out.new (Outcomes.of_valid answer) }
 {
-    if b { 1 } else { 0 }
-}
-
-#[tactic(auto, unfolding(crate::specs::Outcomes::of_valid, crate::specs::Outcomes::of_word, crate::specs::Outcomes::bytes, crate::specs::Outcomes::header, checks::specs::Outcomes::outcome, so3_answers::specs::Outcomes::valid))]
-pub fn put_valid(out: &mut [u8; 832], a: ValidAnswer) -> usize
-    ensures { Outcomes.Put result out.old out.new (Outcomes.of_valid a) }
-{
-    match a {
-        ValidAnswer::Done(b) => put_word(out, word_of(b)),
-        ValidAnswer::Refused(r) => put_check(out, Check::Refused(r)),
-    }
-}
-
-fn put_word(out: &mut [u8; 832], n: u64) -> usize
-    ensures { Outcomes.Put result out.old out.new (Outcomes.of_word n) }
-{
-    put_header(out, Check::Passed, 1);
-    words::put_word(out, 32, n);
-    40
-}
-
-#[tactic(auto, unfolding(crate::specs::Outcomes::of_rotation, so3_answers::specs::Outcomes::element, crate::specs::Outcomes::of_check))]
-pub fn put_rotation(out: &mut [u8; 832], a: so3_answers::Answer) -> usize
-    ensures { Outcomes.Put result out.old out.new (Outcomes.of_rotation a) }
-{
-    match a {
-        so3_answers::Answer::Done(e) => {
-            let q = e.params;
-            let values = [q.w, q.x, q.y, q.z];
-            put_outcome(out, Check::Passed, &values)
+    match answer {
+        Ok(b) => {
+            put_header(out, Ok(()), 1);
+            words::put_word(out, 32, u64::from(b));
+            40
         }
-        so3_answers::Answer::Refused(r) => put_check(out, Check::Refused(r)),
+        Err(r) => put_check(out, Err(r)),
     }
 }
 
-#[tactic(auto, unfolding(crate::specs::Outcomes::of_vector, so3_answers::specs::Outcomes::vector, crate::specs::Outcomes::of_check))]
-pub fn put_vector(out: &mut [u8; 832], a: VectorAnswer) -> usize
-    ensures { Outcomes.Put result out.old out.new (Outcomes.of_vector a) }
+// What is put as COUNT values, or as ZEROS of +0 beside a refusal.
+pub trait ToWords: Values {
+    const COUNT: usize;
+
+    const ZEROS: usize;
+
+    ghost COUNT: { ℕ };
+
+    ghost ZEROS: { ℕ };
+
+    // After the header.
+    fn store(&self, out: &mut [u8; 832])
+        requires { COUNT ≤ 100 }
+        ensures count { length (Self.values self.now) ≡ COUNT }
+        ensures stored { out.new ≡ sets out.old 32 (Outcomes.bits (Self.values self.now)) };
+}
+
+fn put_refusal(out: &mut [u8; 832], r: Refusal, zeros: usize) -> usize
+    requires { zeros ≤ 100 }
+    ensures { Outcomes.Put result out.old out.new (Outcomes.of_refusal r zeros) }
 {
-    match a {
-        VectorAnswer::Done(v) => {
-            let values = [v.x, v.y, v.z];
-            put_outcome(out, Check::Passed, &values)
+    put_header(out, Err(r), zeros as u64);
+    put_values(out, 32, &[0.0; 100][..zeros]);
+    32 + zeros * 8
+}
+
+pub fn put<A: ToWords>(out: &mut [u8; 832], answer: Result<A, Refusal>) -> usize
+    requires count_fits { A.COUNT ≤ 100 }
+    requires zeros_fit { A.ZEROS ≤ 100 }
+    ensures { Outcomes.Put result out.old out.new (Outcomes.of A.values A.ZEROS answer) }
+{
+    match answer {
+        Ok(a) => {
+            put_header(out, Ok(()), A::COUNT as u64);
+            a.store(out);
+            32 + A::COUNT * 8
         }
-        VectorAnswer::Refused(r) => put_check(out, Check::Refused(r)),
+        Err(r) => put_refusal(out, r, A::ZEROS),
     }
 }
 
-#[tactic(auto, unfolding(crate::specs::Outcomes::of_rotation_tangent, so3_answers::specs::Outcomes::tangent, crate::specs::Outcomes::of_check))]
-pub fn put_rotation_tangent(out: &mut [u8; 832], a: so3_answers::TangentAnswer) -> usize
-    ensures { Outcomes.Put result out.old out.new (Outcomes.of_rotation_tangent a) }
-{
-    match a {
-        so3_answers::TangentAnswer::Done(t) => {
-            let v = t.theta;
-            let values = [v.x, v.y, v.z];
-            put_outcome(out, Check::Passed, &values)
-        }
-        so3_answers::TangentAnswer::Refused(r) => put_check(out, Check::Refused(r)),
+// ---- What the calls answer
+
+impl ToWords for f64 {
+    const COUNT: usize = 1;
+
+    const ZEROS: usize = 0;
+
+    ghost COUNT = { 1 };
+
+    ghost ZEROS = { 0 };
+
+    fn store(&self, out: &mut [u8; 832]) {
+        put_values(out, 32, &[*self]);
     }
 }
 
-#[tactic(auto, unfolding(crate::specs::Outcomes::of_matrix3, so3_answers::specs::Outcomes::matrix))]
-pub fn put_matrix3(out: &mut [u8; 832], a: so3_answers::MatrixAnswer) -> usize
-    ensures { Outcomes.Put result out.old out.new (Outcomes.of_matrix3 a) }
-{
-    let c = a.outcome;
-    let m = a.matrix;
-    let x = m.row0;
-    let y = m.row1;
-    let z = m.row2;
-    let values = [x.x, x.y, x.z, y.x, y.y, y.z, z.x, z.y, z.z];
-    put_outcome(out, c, &values)
-}
+impl ToWords for Vec3 {
+    const COUNT: usize = 3;
 
-#[tactic(auto, unfolding(crate::specs::Outcomes::of_element, sgal3_composition::specs::Outcomes::element, crate::specs::Outcomes::of_check))]
-pub fn put_element(out: &mut [u8; 832], a: Answer) -> usize
-    ensures { Outcomes.Put result out.old out.new (Outcomes.of_element a) }
-{
-    match a {
-        Answer::Done(e) => {
-            let values = e.coeffs();
-            put_outcome(out, Check::Passed, &values)
-        }
-        Answer::Refused(r) => put_check(out, Check::Refused(r)),
+    const ZEROS: usize = 0;
+
+    ghost COUNT = { 3 };
+
+    ghost ZEROS = { 0 };
+
+    fn store(&self, out: &mut [u8; 832]) {
+        put_values(out, 32, &[self.x, self.y, self.z]);
     }
 }
 
-#[tactic(auto, unfolding(crate::specs::Outcomes::of_tangent, sgal3_answers::specs::Outcomes::tangent, crate::specs::Outcomes::of_check))]
-pub fn put_tangent(out: &mut [u8; 832], a: sgal3_answers::TangentAnswer) -> usize
-    ensures { Outcomes.Put result out.old out.new (Outcomes.of_tangent a) }
-{
-    match a {
-        sgal3_answers::TangentAnswer::Done(t) => {
-            let values = t.coeffs();
-            put_outcome(out, Check::Passed, &values)
-        }
-        sgal3_answers::TangentAnswer::Refused(r) => put_check(out, Check::Refused(r)),
+// By row.
+impl ToWords for Mat3 {
+    const COUNT: usize = 9;
+
+    const ZEROS: usize = 9;
+
+    ghost COUNT = { 9 };
+
+    ghost ZEROS = { 9 };
+
+    fn store(&self, out: &mut [u8; 832]) {
+        let a = self.row0;
+        let b = self.row1;
+        let c = self.row2;
+        put_values(out, 32, &[a.x, a.y, a.z, b.x, b.y, b.z, c.x, c.y, c.z]);
     }
 }
 
-#[tactic(auto, unfolding(crate::specs::Outcomes::of_number, sgal3_answers::specs::Outcomes::number, crate::specs::Outcomes::of_check))]
-pub fn put_number(out: &mut [u8; 832], a: NumberAnswer) -> usize
-    ensures { Outcomes.Put result out.old out.new (Outcomes.of_number a) }
-{
-    match a {
-        NumberAnswer::Done(x) => {
-            let values = [x];
-            put_outcome(out, Check::Passed, &values)
-        }
-        NumberAnswer::Refused(r) => put_check(out, Check::Refused(r)),
+// A matrix listed by row, or the values of an element.
+impl<const N: usize> ToWords for [f64; N] {
+    const COUNT: usize = N;
+
+    const ZEROS: usize = N;
+
+    ghost COUNT = { N };
+
+    ghost ZEROS = { N };
+
+    fn store(&self, out: &mut [u8; 832]) {
+        put_values(out, 32, self);
     }
 }
 
-// An array in a field is lent through a parameter.
-fn put_11(out: &mut [u8; 832], c: Check, values: &[f64; 11]) -> usize
-    ensures { Outcomes.Put result out.old out.new (Outcomes.of_values (outcome c values.now)) }
-{
-    put_outcome(out, c, values)
+impl ToWords for [[f64; 10]; 10] {
+    const COUNT: usize = 100;
+
+    const ZEROS: usize = 100;
+
+    ghost COUNT = { 100 };
+
+    ghost ZEROS = { 100 };
+
+    fn store(&self, out: &mut [u8; 832]) {
+        put_rows(out, self);
+    }
 }
 
-fn put_25(out: &mut [u8; 832], c: Check, values: &[f64; 25]) -> usize
-    ensures { Outcomes.Put result out.old out.new (Outcomes.of_values (outcome c values.now)) }
-{
-    put_outcome(out, c, values)
+impl ToWords for so3::Element {
+    const COUNT: usize = 4;
+
+    const ZEROS: usize = 0;
+
+    ghost COUNT = { 4 };
+
+    ghost ZEROS = { 0 };
+
+    #[tactic(auto, unfolding(so3::specs::Elements::values))]
+    fn store(&self, out: &mut [u8; 832]) {
+        let q = self.params;
+        put_values(out, 32, &[q.w, q.x, q.y, q.z]);
+    }
 }
 
-fn put_30(out: &mut [u8; 832], c: Check, values: &[f64; 30]) -> usize
-    ensures { Outcomes.Put result out.old out.new (Outcomes.of_values (outcome c values.now)) }
-{
-    put_outcome(out, c, values)
+impl ToWords for so3::Tangent {
+    const COUNT: usize = 3;
+
+    const ZEROS: usize = 0;
+
+    ghost COUNT = { 3 };
+
+    ghost ZEROS = { 0 };
+
+    #[tactic(auto, unfolding(so3::specs::Tangents::values))]
+    fn store(&self, out: &mut [u8; 832]) {
+        self.theta.store(out);
+    }
 }
 
-pub fn put_36(out: &mut [u8; 832], c: Check, values: &[f64; 36]) -> usize
-    ensures { Outcomes.Put result out.old out.new (Outcomes.of_values (outcome c values.now)) }
-{
-    put_outcome(out, c, values)
+// Elements and tangents have no trait in common that gives an array of their values, since its length would be a constant of the trait's.
+impl ToWords for sgal3::Element {
+    const COUNT: usize = 11;
+
+    const ZEROS: usize = 0;
+
+    ghost COUNT = { 11 };
+
+    ghost ZEROS = { 0 };
+
+    fn store(&self, out: &mut [u8; 832]) {
+        put_values(out, 32, &self.coeffs());
+    }
 }
 
-pub fn put_coeffs(out: &mut [u8; 832], a: CoeffsAnswer) -> usize
-    ensures { Outcomes.Put result out.old out.new (Outcomes.of_coeffs a) }
-{
-    let c = a.outcome;
-    let values = a.values;
-    put_11(out, c, &values)
+impl ToWords for sgal3::Tangent {
+    const COUNT: usize = 10;
+
+    const ZEROS: usize = 0;
+
+    ghost COUNT = { 10 };
+
+    ghost ZEROS = { 0 };
+
+    fn store(&self, out: &mut [u8; 832]) {
+        put_values(out, 32, &self.coeffs());
+    }
 }
 
-pub fn put_matrix5(out: &mut [u8; 832], a: sgal3_answers::MatrixAnswer) -> usize
-    ensures { Outcomes.Put result out.old out.new (Outcomes.of_matrix5 a) }
+// The row of an array, known to be of ten where it is a parameter.
+fn put_row(out: &mut [u8], at: usize, row: &[f64; 10])
+    requires { at + 80 ≤ length out.old }
+    ensures count { length row.now ≡ 10 }
+    ensures stored { out.new ≡ sets out.old at (Outcomes.bits row.now) }
 {
-    let c = a.outcome;
-    let values = a.values;
-    put_25(out, c, &values)
+    put_values(out, at, row);
 }
 
-pub fn put_act_jacobian(out: &mut [u8; 832], a: ActJacobianAnswer) -> usize
-    ensures { Outcomes.Put result out.old out.new (Outcomes.of_act_jacobian a) }
+fn put_rows(out: &mut [u8], rows: &[[f64; 10]; 10])
+    requires { 832 ≤ length out.old }
+    ensures count { length (TenRows.values rows.now) ≡ 100 }
+    ensures stored { out.new ≡ sets out.old 32 (Outcomes.bits (TenRows.values rows.now)) }
 {
-    let c = a.outcome;
-    let values = a.values;
-    put_30(out, c, &values)
-}
-
-pub fn put_hat(out: &mut [u8; 832], a: HatAnswer) -> usize
-    ensures { Outcomes.Put result out.old out.new (Outcomes.of_hat a) }
-{
-    let c = a.outcome;
-    let values = a.values;
-    put_36(out, c, &values)
-}
-
-pub fn put_matrix10(out: &mut [u8; 832], a: Matrix10Answer) -> usize
-    ensures { Outcomes.Put result out.old out.new (Outcomes.of_matrix10 a) }
-{
-    let c = a.outcome;
-    let rows = a.rows;
-    put_header(out, c, 100);
-    put_rows(out, rows);
-    832
+    for (k, row) in rows.iter().enumerate() {
+        put_row(out, 32 + k * 80, row);
+    }
 }

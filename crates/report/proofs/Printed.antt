@@ -13,8 +13,8 @@ use Rattle.checks.proofs.Outcomes.{not-zero}
 use Rattle.sgal3.specs.Elements.{coeffs}
 use Rattle.sgal3.specs.declared.Element.{Element}
 use Rattle.sgal3_composition.specs.Outcomes.{element}
-use Rattle.sgal3_composition.specs.declared.Answer.{Answer}
-use Rattle.sgal3_composition.specs.declared.Answer.TheVariants.{Done, Refused}
+use Rattle.sgal3_composition.specs.Calls.{Answer}
+use Rattle.std.specs.Prelude.{Ok, Err}
 use Rattle.report_lines.specs.Lines.{lines, refusal}
 use Rattle.report_lines.proofs.Lines.{lines-length, refusal-short}
 use Rattle.report.specs.Text.{text, Written}
@@ -27,21 +27,21 @@ number-below (NotUnit x) = omega arith
 number-below Turn = omega arith
 number-below Overflow = omega arith
 
-pub done-text : (e : Element) → text (Done e) ≡ lines 0 (coeffs e)
+pub done-text : (e : Element) → text (Ok e) ≡ lines 0 (coeffs e)
 unfolding text element outcome
 done-text e = refl
 
-pub refused-text : (r : Refusal) → text (Refused r) ≡ refusal (number r)
+pub refused-text : (r : Refusal) → text (Err r) ≡ refusal (number r)
 unfolding text element outcome
 refused-text r = rw (not-zero r)
 
-pub answer-length : (e : Element) → 220 ≡ length (text (Done e))
+pub answer-length : (e : Element) → 220 ≡ length (text (Ok e))
 unfolding coeffs
 answer-length e = rw (done-text e) (sym (lines-length _ (coeffs e)))
 
 text-short : (a : Answer) → length (text a) ≤ 220
-text-short (Done e) = omega (arith, answer-length e)
-text-short (Refused r) = rw (refused-text r) (refusal-short _)
+text-short (Ok e) = omega (arith, answer-length e)
+text-short (Err r) = rw (refused-text r) (refusal-short _)
 
 -- what was stored from 0 on is what the first places hold
 pub written : (l x : List ℕ) (a : Answer) (n : ℕ) → length l ≡ 220 → n ≡ length (text a) → x ≡ sets l 0 (text a) → Written n x (text a)

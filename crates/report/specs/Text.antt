@@ -1,7 +1,7 @@
 -- What the program `chain` prints: eleven lines, or the line of a refusal. Definitions only.
 use Rattle.std.specs.Prelude.{ℕ, ◌≤◌, ◌≡◌, cond, List, eqb, length, take}
 use Rattle.sgal3_composition.specs.Outcomes.{element}
-use Rattle.sgal3_composition.specs.declared.Answer.{Answer}
+use Rattle.sgal3_composition.specs.Calls.{Answer}
 use Rattle.byte_chain.specs.Blocks as Blocks
 use Rattle.report_lines.specs.Lines.{lines, refusal}
 

@@ -5,23 +5,25 @@ ghost use Rattle.std.specs.Prelude.{◌≡◌, ◌≤◌, length};
 ghost use Rattle.std.proofs.lemmas.List.Edits.{sets};
 ghost use Rattle.report.specs.Text as Text;
 
-use sgal3_composition::Answer;
+use checks::Refusal;
+use sgal3::Element;
 
-fn put_answer(out: &mut [u8], answer: Answer) -> usize
+fn put_answer(out: &mut [u8], answer: Result<Element, Refusal>) -> usize
     requires { 220 ≤ length out.old }
     ensures value { result ≡ length (Text.text answer) }
     ensures out_after { out.new ≡ sets out.old 0 (Text.text answer) }
 {
     match answer {
-        Answer::Done(e) => {
+        Ok(e) => {
             report_lines::put_lines(out, e.coeffs());
             220
         }
-        Answer::Refused(r) => report_lines::put_refusal(out, r.number() as u64),
+        Err(r) => report_lines::put_refusal(out, r.number() as u64),
     }
 }
 
-// Puts what is printed for an input at the start of out, and answers how many bytes it is.
+// Puts what is printed for an input at the start of out, and answers how many bytes it is. There is no heap, so out is
+// the caller's.
 #[tactic(auto, unfolding(crate::specs::Text::report_of))]
 pub fn report(input: &[u8], out: &mut [u8; 220]) -> usize
     ensures { Text.Written result out.new (Text.report_of input.now) }

@@ -9,7 +9,7 @@ use lib.Seq.{sets, drop-cons}
 use lib.Ieee.{Float, binary64, to_bits}
 use Rattle.words.proofs.Stores.{sets-append, join3}
 use Rattle.digits.specs.Digits.{hex, place, decimal}
-use Rattle.digits.proofs.Digits.{hex-length, decimal-short}
+use Rattle.digits.proofs.Digits.{hex-length, decimal_short}
 use Rattle.report_lines.specs.Lines.{ending, line, lines, refused, refusal}
 
 pub line_sets : (l : List ℕ) (i k : ℕ) (x : Float)
@@ -52,4 +52,4 @@ unfolding refusal
 refusal-length n = length-append refused (decimal n ++ ending) ∙ omega (arith, length-append (decimal n) ending)
 
 pub refusal-short : (n : ℕ) → length (refusal n) ≤ 220
-refusal-short n = omega (arith, refusal-length n, decimal-short n)
+refusal-short n = omega (arith, refusal-length n, decimal_short n)

@@ -1,9 +1,12 @@
-// The lines of a report, as bytes of a slice: one for each value, or the one of a refusal.
+// The lines of a report, as bytes of a slice: one for each value, or the one of a refusal. By hand, as in digits, into the caller's buffer: there is
+// no heap.
 #![tactic(auto)]
 
 ghost use Rattle.std.specs.Prelude.{◌≡◌, ◌+◌, ◌<◌, ◌≤◌, length};
 ghost use Rattle.std.proofs.lemmas.List.Edits.{sets};
 ghost use Rattle.report_lines.specs.Lines as Lines;
+
+use digits::Case;
 
 fn put_ending(out: &mut [u8], at: usize)
     requires { at < length out.old }
@@ -18,7 +21,7 @@ fn put_line(out: &mut [u8], at: usize, k: u64, x: f64)
     ensures { out.new ≡ sets out.old at (Lines.line k x) }
 {
     digits::put_place(out, at, k);
-    digits::put_hex(out, at + 3, words::to_bits(x));
+    digits::put_hex(out, at + 3, words::to_bits(x), Case::Upper);
     put_ending(out, at + 19);
 }
 
@@ -26,10 +29,8 @@ pub fn put_lines(out: &mut [u8], values: [f64; 11])
     requires { 220 ≤ length out.old }
     ensures { out.new ≡ sets out.old 0 (Lines.lines 0 values) }
 {
-    let mut k = 0usize;
-    while k < 11 {
-        put_line(out, k * 20, k as u64, values[k]);
-        k += 1;
+    for (k, x) in values.iter().enumerate() {
+        put_line(out, k * 20, k as u64, *x);
     }
 }
 
@@ -37,16 +38,10 @@ fn put_refused(out: &mut [u8])
     requires { 8 ≤ length out.old }
     ensures { out.new ≡ sets out.old 0 Lines.refused }
 {
-    out[0] = b'r';
-    out[1] = b'e';
-    out[2] = b'f';
-    out[3] = b'u';
-    out[4] = b's';
-    out[5] = b'e';
-    out[6] = b'd';
-    out[7] = b' ';
+    out[..8].copy_from_slice(b"refused ");
 }
 
+#[tactic(auto, using(digits::proofs::Digits::decimal_short))]
 pub fn put_refusal(out: &mut [u8], n: u64) -> usize
     requires in_bounds { 220 ≤ length out.old }
     requires n_bound { n < 100 }

@@ -1,32 +1,35 @@
-// A request answered: every public call by its number, on blocks of values, and its outcome as bytes. No bytes where there is
-// no such call. docs/TESTING.md has the numbers.
+// A request answered: every public call by its number, on blocks of values, and its outcome as bytes. None where there is no such call.
+// docs/TESTING.md has the numbers, which are the format's; each range of them has a crate of its own.
 #![tactic(auto)]
 
 ghost use Rattle.outcomes.specs.Outcomes as Outcomes;
 ghost use Rattle.requests.specs.Requests as Requests;
 
+use manifold::LieGroup;
+use outcomes::Request;
+
 // The checks of a block, and an element as given.
-#[tactic(auto, unfolding(crate::specs::Requests::check_call))]
-fn check_call(call: u64, left: &[f64], right: &[f64], extra: u64, out: &mut [u8; 832]) -> usize
-    ensures { Outcomes.Put result out.old out.new (Requests.check_call call left.now right.now extra) }
+#[tactic(auto, unfolding(crate::specs::Requests::check_call, outcomes::specs::Outcomes::Answered, manifold::specs::Group::validate_params, checks::specs::Checks::validate_sgal3_params, checks::specs::Checks::validate_so3_params))]
+fn check_call(r: Request<'_>, out: &mut [u8; 832]) -> Option<usize>
+    ensures { Outcomes.Answered result out.old out.new (Requests.check_call r.entry) }
 {
-    match call {
-        0 => outcomes::put_check(out, checks::validate_sgal3_params(left)),
-        1 => outcomes::put_check(out, checks::validate_so3_params(left)),
-        2 => outcomes::put_element(out, sgal3_composition::from_param_slice(left)),
-        _ => 0,
+    match r.call {
+        0 => Some(outcomes::put_check(out, sgal3::Element::validate_params(r.left))),
+        1 => Some(outcomes::put_check(out, so3::Element::validate_params(r.left))),
+        2 => Some(outcomes::put(out, sgal3::Element::from_param_slice(r.left))),
+        _ => None,
     }
 }
 
-#[tactic(auto, unfolding(crate::specs::Requests::answer))]
-pub fn answer(call: u64, left: &[f64], right: &[f64], extra: u64, out: &mut [u8; 832]) -> usize
-    ensures { Outcomes.Put result out.old out.new (Requests.answer call left.now right.now extra) }
+#[tactic(auto, unfolding(crate::specs::Requests::answer, outcomes::specs::Outcomes::Answered))]
+pub fn answer(r: Request<'_>, out: &mut [u8; 832]) -> Option<usize>
+    ensures { Outcomes.Answered result out.old out.new (Requests.answer r.entry) }
 {
-    if call < 10 {
-        return check_call(call, left, right, extra, out);
+    if r.call < 10 {
+        return check_call(r, out);
     }
-    if call < 70 {
-        return rotation_requests::answer(call, left, right, extra, out);
+    if r.call < 70 {
+        return rotation_requests::answer(r, out);
     }
-    galilean_requests::answer(call, left, right, extra, out)
+    galilean_requests::answer(r, out)
 }

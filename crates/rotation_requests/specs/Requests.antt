@@ -1,113 +1,116 @@
--- What a request on rotations is answered, as bytes: the calls by their numbers. Definitions only.
-use Rattle.std.specs.Prelude.{ℕ, cond, List, [], eqb, ltb, length, get_or, Float}
+-- What a request on rotations is answered, as bytes: the calls by their numbers, none where there is no such call. Definitions only.
+use Rattle.std.specs.Prelude.{ℕ, cond, List, eqb, ltb, length, get_or, Option, Some, None}
 use Rattle.std.specs.Float.{nan, binary64}
 use Rattle.std.specs.Float.Ieee.{of_bits}
-use Rattle.so3.specs.Elements as So3-as-Elements
-use Rattle.so3.specs.Tangents as So3-as-Tangents
-use Rattle.so3_answers.specs.Answers as So3-as-Answers
-use Rattle.so3_answers.specs.Answers.{matrix_answer}
+use Rattle.linear.specs.Matrices as Matrices
+use Rattle.manifold.specs.Answers.{answered, vector_values, matrix_values}
+use Rattle.manifold_blocks.specs.Calls as Generic
+use Rattle.so3.specs.Elements as Elements
+use Rattle.so3.specs.Tangents as Tangents
+use Rattle.so3.specs.Group.{group, tangents}
 use Rattle.so3_blocks.specs.Calls as Rotations
-use Rattle.so3_tangent_blocks.specs.Calls as RotationTangents
-use Rattle.manifold_blocks.specs.Calls as RotationsGroup
 use Rattle.outcomes.specs.Outcomes as Outcomes
+use Rattle.outcomes.specs.declared.Request.{Request}
 
 -- of four values: the one call that takes no block
-unfoldable pub quaternion_call : List Float → List ℕ
-quaternion_call left =
-    cond (eqb (length left) 4) (Outcomes.of_rotation (Rotations.try_from_quaternion_wxyz (get_or left 0 nan) (get_or left 1 nan) (get_or left 2 nan) (get_or left 3 nan))) []
+unfoldable pub quaternion_call : Request → Option (List ℕ)
+quaternion_call r =
+    cond (eqb (length r.left.now) 4)
+    (Some (Outcomes.of Elements.values 0 (Rotations.try_from_quaternion_wxyz (get_or r.left.now 0 nan) (get_or r.left.now 1 nan) (get_or r.left.now 2 nan) (get_or r.left.now 3 nan))))
+    None
 
 -- a rotation, and two composed
-unfoldable pub rotation_call : ℕ → List Float → List Float → ℕ → List ℕ
-rotation_call call left right extra =
-    cond (eqb call 10) (quaternion_call left)
-    (cond (eqb call 11) (Outcomes.of_valid (Rotations.is_valid left (of_bits binary64 extra)))
-    (cond (eqb call 12) (Outcomes.of_matrix3 (Rotations.rotation_matrix left))
-    (cond (eqb call 13) (Outcomes.of_rotation (Rotations.inverse left))
-    (cond (eqb call 14) (Outcomes.of_matrix3 (Rotations.inverse_jacobian left))
-    (cond (eqb call 15) (Outcomes.of_rotation (Rotations.compose left right))
-    (cond (eqb call 16) (Outcomes.of_matrix3 (Rotations.compose_jacobian_self left right))
-    (cond (eqb call 17) (Outcomes.of_matrix3 (Rotations.compose_jacobian_other left right))
-    [])))))))
+unfoldable pub rotation_call : Request → Option (List ℕ)
+rotation_call r =
+    cond (eqb r.call 10) (quaternion_call r)
+    (cond (eqb r.call 11) (Some (Outcomes.of_valid (Generic.is_valid group r.left.now (of_bits binary64 r.extra))))
+    (cond (eqb r.call 12) (Some (Outcomes.of matrix_values 9 (Generic.rotation_matrix group r.left.now)))
+    (cond (eqb r.call 13) (Some (Outcomes.of Elements.values 0 (Generic.inverse group Elements.values r.left.now)))
+    (cond (eqb r.call 14) (Some (Outcomes.of matrix_values 9 (Generic.inverse_jacobian group matrix_values r.left.now)))
+    (cond (eqb r.call 15) (Some (Outcomes.of Elements.values 0 (Generic.compose group Elements.values r.left.now r.right.now)))
+    (cond (eqb r.call 16) (Some (Outcomes.of matrix_values 9 (Generic.compose_jacobian_self group matrix_values r.left.now r.right.now)))
+    (cond (eqb r.call 17) (Some (Outcomes.of matrix_values 9 (Generic.compose_jacobian_other group matrix_values r.left.now r.right.now)))
+    None)))))))
 
 -- the logarithm of a rotation, and what a rotation acts on
-unfoldable pub rotation_log_call : ℕ → List Float → List Float → ℕ → List ℕ
-rotation_log_call call left right extra =
-    cond (eqb call 18) (Outcomes.of_rotation_tangent (Rotations.log left))
-    (cond (eqb call 19) (Outcomes.of_rotation_tangent (Rotations.log left))
-    (cond (eqb call 20) (Outcomes.of_matrix3 (Rotations.log_jacobian left))
-    (cond (eqb call 21) (Outcomes.of_vector (Rotations.act left right))
-    (cond (eqb call 22) (Outcomes.of_matrix3 (Rotations.act_jacobian_self left right))
-    (cond (eqb call 23) (Outcomes.of_matrix3 (Rotations.act_jacobian_vector left right))
-    (cond (eqb call 24) (Outcomes.of_matrix3 (Rotations.adjoint left))
-    (cond (eqb call 25) (Outcomes.of_rotation (Rotations.normalize left))
-    [])))))))
+unfoldable pub rotation_log_call : Request → Option (List ℕ)
+rotation_log_call r =
+    cond (eqb r.call 18) (Some (Outcomes.of Tangents.values 0 (Generic.log group Tangents.values r.left.now)))
+    (cond (eqb r.call 19) (Some (Outcomes.of Tangents.values 0 (Generic.log group Tangents.values r.left.now)))
+    (cond (eqb r.call 20) (Some (Outcomes.of matrix_values 9 (Rotations.log_jacobian r.left.now)))
+    (cond (eqb r.call 21) (Some (Outcomes.of vector_values 0 (Generic.act group r.left.now r.right.now)))
+    (cond (eqb r.call 22) (Some (Outcomes.of matrix_values 9 (Generic.act_jacobian_self group matrix_values r.left.now r.right.now)))
+    (cond (eqb r.call 23) (Some (Outcomes.of matrix_values 9 (Generic.act_jacobian_vector group r.left.now r.right.now)))
+    (cond (eqb r.call 24) (Some (Outcomes.of matrix_values 9 (Generic.adjoint group matrix_values r.left.now)))
+    (cond (eqb r.call 25) (Some (Outcomes.of Elements.values 0 (Generic.normalize group Elements.values r.left.now)))
+    None)))))))
 
 -- the exponential of a tangent of the rotations, and its Jacobians
-unfoldable pub rotation_exp_call : ℕ → List Float → List Float → ℕ → List ℕ
-rotation_exp_call call left right extra =
-    cond (eqb call 26) (Outcomes.of_rotation (RotationTangents.exp left))
-    (cond (eqb call 27) (Outcomes.of_matrix3 (RotationTangents.right_jacobian left))
-    (cond (eqb call 28) (Outcomes.of_matrix3 (RotationTangents.left_jacobian left))
-    (cond (eqb call 29) (Outcomes.of_matrix3 (RotationTangents.right_jacobian left))
-    (cond (eqb call 30) (Outcomes.of_matrix3 (RotationTangents.left_jacobian_inv left))
-    (cond (eqb call 31) (Outcomes.of_matrix3 (RotationTangents.right_jacobian_inv left))
-    [])))))
+unfoldable pub rotation_exp_call : Request → Option (List ℕ)
+rotation_exp_call r =
+    cond (eqb r.call 26) (Some (Outcomes.of Elements.values 0 (Generic.exp tangents Elements.values r.left.now)))
+    (cond (eqb r.call 27) (Some (Outcomes.of matrix_values 9 (Rotations.right_jacobian r.left.now)))
+    (cond (eqb r.call 28) (Some (Outcomes.of matrix_values 9 (Rotations.left_jacobian r.left.now)))
+    (cond (eqb r.call 29) (Some (Outcomes.of matrix_values 9 (Rotations.right_jacobian r.left.now)))
+    (cond (eqb r.call 30) (Some (Outcomes.of matrix_values 9 (Rotations.left_jacobian_inv r.left.now)))
+    (cond (eqb r.call 31) (Some (Outcomes.of matrix_values 9 (Rotations.right_jacobian_inv r.left.now)))
+    None)))))
 
 -- the algebra of the rotations, and what takes no block
-unfoldable pub rotation_tangent_call : ℕ → List Float → List Float → ℕ → List ℕ
-rotation_tangent_call call left right extra =
-    cond (eqb call 32) (Outcomes.of_matrix3 (RotationTangents.hat left))
-    (cond (eqb call 33) (Outcomes.of_matrix3 (RotationTangents.small_adj left))
-    (cond (eqb call 34) (Outcomes.of_rotation_tangent (RotationTangents.lie_bracket left right))
-    (cond (eqb call 35) (Outcomes.of_rotation_tangent (RotationTangents.normalize_tangent left))
-    (cond (eqb call 36) (Outcomes.of_rotation_tangent (RotationTangents.normalized_tangent left))
-    (cond (eqb call 37) (Outcomes.of_matrix3 (matrix_answer (So3-as-Tangents.generator extra)))
-    (cond (eqb call 38) (Outcomes.of_rotation_tangent (So3-as-Answers.tangent_answer So3-as-Tangents.zero))
-    (cond (eqb call 39) (Outcomes.of_rotation (So3-as-Answers.element_answer So3-as-Elements.identity))
-    [])))))))
+unfoldable pub rotation_tangent_call : Request → Option (List ℕ)
+rotation_tangent_call r =
+    cond (eqb r.call 32) (Some (Outcomes.of matrix_values 9 (Generic.hat tangents matrix_values r.left.now)))
+    (cond (eqb r.call 33) (Some (Outcomes.of matrix_values 9 (Generic.small_adj tangents matrix_values r.left.now)))
+    (cond (eqb r.call 34) (Some (Outcomes.of Tangents.values 0 (Generic.lie_bracket tangents Tangents.values r.left.now r.right.now)))
+    (cond (eqb r.call 35) (Some (Outcomes.of Tangents.values 0 (Generic.normalize_tangent tangents Tangents.values r.left.now)))
+    (cond (eqb r.call 36) (Some (Outcomes.of Tangents.values 0 (Generic.normalized_tangent tangents Tangents.values r.left.now)))
+    (cond (eqb r.call 37) (Some (Outcomes.of matrix_values 9 (answered matrix_values (Tangents.generator r.extra))))
+    (cond (eqb r.call 38) (Some (Outcomes.of Tangents.values 0 (answered Tangents.values Tangents.zero)))
+    (cond (eqb r.call 39) (Some (Outcomes.of Elements.values 0 (answered Elements.values Elements.identity)))
+    None)))))))
 
 -- plus of a rotation and a tangent, from either side
-unfoldable pub rotation_plus_call : ℕ → List Float → List Float → ℕ → List ℕ
-rotation_plus_call call left right extra =
-    cond (eqb call 40) (Outcomes.of_rotation (RotationsGroup.right_plus left right))
-    (cond (eqb call 41) (Outcomes.of_matrix3 (RotationsGroup.right_plus_jacobian_self left right))
-    (cond (eqb call 42) (Outcomes.of_matrix3 (RotationsGroup.right_plus_jacobian_tangent left right))
-    (cond (eqb call 43) (Outcomes.of_rotation (RotationsGroup.left_plus left right))
-    (cond (eqb call 44) (Outcomes.of_matrix3 (RotationsGroup.left_plus_jacobian_tangent left right))
-    (cond (eqb call 45) (Outcomes.of_matrix3 (RotationsGroup.left_plus_jacobian_self left right))
-    [])))))
+unfoldable pub rotation_plus_call : Request → Option (List ℕ)
+rotation_plus_call r =
+    cond (eqb r.call 40) (Some (Outcomes.of Elements.values 0 (Generic.right_plus group tangents Elements.values r.left.now r.right.now)))
+    (cond (eqb r.call 41) (Some (Outcomes.of matrix_values 9 (Generic.right_plus_jacobian_self group tangents matrix_values r.left.now r.right.now)))
+    (cond (eqb r.call 42) (Some (Outcomes.of matrix_values 9 (Rotations.right_plus_jacobian_tangent r.left.now r.right.now)))
+    (cond (eqb r.call 43) (Some (Outcomes.of Elements.values 0 (Generic.left_plus group tangents Elements.values r.left.now r.right.now)))
+    (cond (eqb r.call 44) (Some (Outcomes.of matrix_values 9 (Rotations.left_plus_jacobian_tangent r.left.now r.right.now)))
+    (cond (eqb r.call 45) (Some (Outcomes.of matrix_values 9 (Generic.left_plus_jacobian_self group tangents matrix_values r.left.now r.right.now)))
+    None)))))
 
 -- minus of two rotations, from either side
-unfoldable pub rotation_minus_call : ℕ → List Float → List Float → ℕ → List ℕ
-rotation_minus_call call left right extra =
-    cond (eqb call 46) (Outcomes.of_rotation_tangent (RotationsGroup.right_minus left right))
-    (cond (eqb call 47) (Outcomes.of_matrix3 (RotationsGroup.right_minus_jacobian_self left right))
-    (cond (eqb call 48) (Outcomes.of_matrix3 (RotationsGroup.right_minus_jacobian_other left right))
-    (cond (eqb call 49) (Outcomes.of_rotation_tangent (RotationsGroup.left_minus left right))
-    (cond (eqb call 50) (Outcomes.of_matrix3 (RotationsGroup.left_minus_jacobian_self left right))
-    (cond (eqb call 51) (Outcomes.of_matrix3 (RotationsGroup.left_minus_jacobian_other left right))
-    [])))))
+unfoldable pub rotation_minus_call : Request → Option (List ℕ)
+rotation_minus_call r =
+    cond (eqb r.call 46) (Some (Outcomes.of Tangents.values 0 (Generic.right_minus group Tangents.values r.left.now r.right.now)))
+    (cond (eqb r.call 47) (Some (Outcomes.of matrix_values 9 (Rotations.right_minus_jacobian_self r.left.now r.right.now)))
+    (cond (eqb r.call 48) (Some (Outcomes.of matrix_values 9 (Rotations.right_minus_jacobian_other r.left.now r.right.now)))
+    (cond (eqb r.call 49) (Some (Outcomes.of Tangents.values 0 (Generic.left_minus group Tangents.values r.left.now r.right.now)))
+    (cond (eqb r.call 50) (Some (Outcomes.of matrix_values 9 (Rotations.left_minus_jacobian_self r.left.now r.right.now)))
+    (cond (eqb r.call 51) (Some (Outcomes.of matrix_values 9 (Rotations.left_minus_jacobian_other r.left.now r.right.now)))
+    None)))))
 
 -- what leads from one rotation to another; plus and minus of rotations by their short names
-unfoldable pub rotation_between_call : ℕ → List Float → List Float → ℕ → List ℕ
-rotation_between_call call left right extra =
-    cond (eqb call 52) (Outcomes.of_rotation (RotationsGroup.between left right))
-    (cond (eqb call 53) (Outcomes.of_matrix3 (RotationsGroup.between_jacobian_self left right))
-    (cond (eqb call 54) (Outcomes.of_matrix3 (Rotations.compose_jacobian_other left right))
-    (cond (eqb call 55) (Outcomes.of_rotation (RotationsGroup.right_plus left right))
-    (cond (eqb call 56) (Outcomes.of_matrix3 (RotationsGroup.right_plus_jacobian_self left right))
-    (cond (eqb call 57) (Outcomes.of_matrix3 (RotationsGroup.right_plus_jacobian_tangent left right))
-    (cond (eqb call 58) (Outcomes.of_rotation_tangent (RotationsGroup.right_minus left right))
-    (cond (eqb call 59) (Outcomes.of_matrix3 (RotationsGroup.right_minus_jacobian_self left right))
-    (cond (eqb call 60) (Outcomes.of_matrix3 (RotationsGroup.right_minus_jacobian_other left right))
-    []))))))))
+unfoldable pub rotation_between_call : Request → Option (List ℕ)
+rotation_between_call r =
+    cond (eqb r.call 52) (Some (Outcomes.of Elements.values 0 (Generic.between group Elements.values r.left.now r.right.now)))
+    (cond (eqb r.call 53) (Some (Outcomes.of matrix_values 9 (Generic.between_jacobian_self group matrix_values Matrices.neg r.left.now r.right.now)))
+    (cond (eqb r.call 54) (Some (Outcomes.of matrix_values 9 (Generic.compose_jacobian_other group matrix_values r.left.now r.right.now)))
+    (cond (eqb r.call 55) (Some (Outcomes.of Elements.values 0 (Generic.right_plus group tangents Elements.values r.left.now r.right.now)))
+    (cond (eqb r.call 56) (Some (Outcomes.of matrix_values 9 (Generic.right_plus_jacobian_self group tangents matrix_values r.left.now r.right.now)))
+    (cond (eqb r.call 57) (Some (Outcomes.of matrix_values 9 (Rotations.right_plus_jacobian_tangent r.left.now r.right.now)))
+    (cond (eqb r.call 58) (Some (Outcomes.of Tangents.values 0 (Generic.right_minus group Tangents.values r.left.now r.right.now)))
+    (cond (eqb r.call 59) (Some (Outcomes.of matrix_values 9 (Rotations.right_minus_jacobian_self r.left.now r.right.now)))
+    (cond (eqb r.call 60) (Some (Outcomes.of matrix_values 9 (Rotations.right_minus_jacobian_other r.left.now r.right.now)))
+    None))))))))
 
-unfoldable pub answer : ℕ → List Float → List Float → ℕ → List ℕ
-answer call left right extra =
-    cond (ltb call 18) (rotation_call call left right extra)
-    (cond (ltb call 26) (rotation_log_call call left right extra)
-    (cond (ltb call 32) (rotation_exp_call call left right extra)
-    (cond (ltb call 40) (rotation_tangent_call call left right extra)
-    (cond (ltb call 46) (rotation_plus_call call left right extra)
-    (cond (ltb call 52) (rotation_minus_call call left right extra)
-    (rotation_between_call call left right extra))))))
+unfoldable pub answer : Request → Option (List ℕ)
+answer r =
+    cond (ltb r.call 18) (rotation_call r)
+    (cond (ltb r.call 26) (rotation_log_call r)
+    (cond (ltb r.call 32) (rotation_exp_call r)
+    (cond (ltb r.call 40) (rotation_tangent_call r)
+    (cond (ltb r.call 46) (rotation_plus_call r)
+    (cond (ltb r.call 52) (rotation_minus_call r)
+    (rotation_between_call r))))))

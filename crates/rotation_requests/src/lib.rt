@@ -1,235 +1,214 @@
-// A request on rotations answered: the calls 10 to 60 by their numbers, and the outcome of each as bytes. No bytes where there is no
-// such call.
+// A request on rotations answered: the calls 10 to 60 by their numbers, and the outcome of each as bytes. None where there is no such call.
+// The numbers are the format's: an enum or a table of the calls would list them a second time. In parts, since each arm is a case of its function's
+// proof. The calls of the other group have numbers of their own, so an arm that differs from one there in its type alone can't stand once for both.
 #![tactic(auto)]
 
 ghost use Rattle.outcomes.specs.Outcomes as Outcomes;
 ghost use Rattle.rotation_requests.specs.Requests as Requests;
 
+use manifold::Tangent as _;
+use outcomes::Request;
+use so3::{Element, Tangent};
+
 // A rotation, and two composed.
-#[tactic(auto, unfolding(crate::specs::Requests::rotation_call))]
-fn rotation_call(call: u64, left: &[f64], right: &[f64], extra: u64, out: &mut [u8; 832]) -> usize
-    ensures { Outcomes.Put result out.old out.new (Requests.rotation_call call left.now right.now extra) }
+#[tactic(auto, unfolding(crate::specs::Requests::rotation_call, outcomes::specs::Outcomes::Answered))]
+fn rotation_call(r: Request<'_>, out: &mut [u8; 832]) -> Option<usize>
+    ensures { Outcomes.Answered result out.old out.new (Requests.rotation_call r.entry) }
 {
-    match call {
-        10 => quaternion_call(left, out),
-        11 => outcomes::put_valid(out, so3_blocks::is_valid(left, words::of_bits(extra))),
-        12 => outcomes::put_matrix3(out, so3_blocks::rotation_matrix(left)),
-        13 => outcomes::put_rotation(out, so3_blocks::inverse(left)),
-        14 => outcomes::put_matrix3(out, so3_blocks::inverse_jacobian(left)),
-        15 => outcomes::put_rotation(out, so3_blocks::compose(left, right)),
-        16 => outcomes::put_matrix3(out, so3_blocks::compose_jacobian_self(left, right)),
-        17 => outcomes::put_matrix3(out, so3_blocks::compose_jacobian_other(left, right)),
-        _ => 0,
+    match r.call {
+        10 => quaternion_call(r, out),
+        11 => Some(outcomes::put_valid(
+            out,
+            manifold_blocks::is_valid::<Element>(r.left, words::of_bits(r.extra)),
+        )),
+        12 => Some(outcomes::put(out, manifold_blocks::rotation_matrix::<Element>(r.left))),
+        13 => Some(outcomes::put(out, manifold_blocks::inverse::<Element>(r.left))),
+        14 => Some(outcomes::put(out, manifold_blocks::inverse_jacobian::<Element>(r.left))),
+        15 => Some(outcomes::put(out, manifold_blocks::compose::<Element>(r.left, r.right))),
+        16 => Some(outcomes::put(
+            out,
+            manifold_blocks::compose_jacobian_self::<Element>(r.left, r.right),
+        )),
+        17 => Some(outcomes::put(
+            out,
+            manifold_blocks::compose_jacobian_other::<Element>(r.left, r.right),
+        )),
+        _ => None,
     }
 }
 
 // The logarithm of a rotation, and what a rotation acts on.
-#[tactic(auto, unfolding(crate::specs::Requests::rotation_log_call))]
-fn rotation_log_call(
-    call: u64,
-    left: &[f64],
-    right: &[f64],
-    extra: u64,
-    out: &mut [u8; 832],
-) -> usize
-    ensures { Outcomes.Put result out.old out.new (Requests.rotation_log_call call left.now right.now extra) }
+#[tactic(auto, unfolding(crate::specs::Requests::rotation_log_call, outcomes::specs::Outcomes::Answered))]
+fn rotation_log_call(r: Request<'_>, out: &mut [u8; 832]) -> Option<usize>
+    ensures { Outcomes.Answered result out.old out.new (Requests.rotation_log_call r.entry) }
 {
-    match call {
-        18 => outcomes::put_rotation_tangent(out, so3_blocks::log(left)),
-        19 => outcomes::put_rotation_tangent(out, so3_blocks::vee(left)),
-        20 => outcomes::put_matrix3(out, so3_blocks::log_jacobian(left)),
-        21 => outcomes::put_vector(out, so3_blocks::act(left, right)),
-        22 => outcomes::put_matrix3(out, so3_blocks::act_jacobian_self(left, right)),
-        23 => outcomes::put_matrix3(out, so3_blocks::act_jacobian_vector(left, right)),
-        24 => outcomes::put_matrix3(out, so3_blocks::adjoint(left)),
-        25 => outcomes::put_rotation(out, so3_blocks::normalize(left)),
-        _ => 0,
+    match r.call {
+        18 => Some(outcomes::put(out, manifold_blocks::log::<Element>(r.left))),
+        19 => Some(outcomes::put(out, manifold_blocks::vee::<Element>(r.left))),
+        20 => Some(outcomes::put(out, so3_blocks::log_jacobian(r.left))),
+        21 => Some(outcomes::put(out, manifold_blocks::act::<Element>(r.left, r.right))),
+        22 => Some(outcomes::put(
+            out,
+            manifold_blocks::act_jacobian_self::<Element>(r.left, r.right),
+        )),
+        23 => Some(outcomes::put(
+            out,
+            manifold_blocks::act_jacobian_vector::<Element>(r.left, r.right),
+        )),
+        24 => Some(outcomes::put(out, manifold_blocks::adjoint::<Element>(r.left))),
+        25 => Some(outcomes::put(out, manifold_blocks::normalize::<Element>(r.left))),
+        _ => None,
     }
 }
 
 // The exponential of a tangent of the rotations, and its Jacobians.
-#[tactic(auto, unfolding(crate::specs::Requests::rotation_exp_call))]
-fn rotation_exp_call(
-    call: u64,
-    left: &[f64],
-    right: &[f64],
-    extra: u64,
-    out: &mut [u8; 832],
-) -> usize
-    ensures { Outcomes.Put result out.old out.new (Requests.rotation_exp_call call left.now right.now extra) }
+#[tactic(auto, unfolding(crate::specs::Requests::rotation_exp_call, outcomes::specs::Outcomes::Answered))]
+fn rotation_exp_call(r: Request<'_>, out: &mut [u8; 832]) -> Option<usize>
+    ensures { Outcomes.Answered result out.old out.new (Requests.rotation_exp_call r.entry) }
 {
-    match call {
-        26 => outcomes::put_rotation(out, so3_tangent_blocks::exp(left)),
-        27 => outcomes::put_matrix3(out, so3_tangent_blocks::exp_jacobian(left)),
-        28 => outcomes::put_matrix3(out, so3_tangent_blocks::left_jacobian(left)),
-        29 => outcomes::put_matrix3(out, so3_tangent_blocks::right_jacobian(left)),
-        30 => outcomes::put_matrix3(out, so3_tangent_blocks::left_jacobian_inv(left)),
-        31 => outcomes::put_matrix3(out, so3_tangent_blocks::right_jacobian_inv(left)),
-        _ => 0,
+    match r.call {
+        26 => Some(outcomes::put(out, manifold_blocks::exp::<Tangent>(r.left))),
+        27 => Some(outcomes::put(out, so3_blocks::exp_jacobian(r.left))),
+        28 => Some(outcomes::put(out, so3_blocks::left_jacobian(r.left))),
+        29 => Some(outcomes::put(out, so3_blocks::right_jacobian(r.left))),
+        30 => Some(outcomes::put(out, so3_blocks::left_jacobian_inv(r.left))),
+        31 => Some(outcomes::put(out, so3_blocks::right_jacobian_inv(r.left))),
+        _ => None,
     }
 }
 
 // The algebra of the rotations, and what takes no block.
-#[tactic(auto, unfolding(crate::specs::Requests::rotation_tangent_call))]
-fn rotation_tangent_call(
-    call: u64,
-    left: &[f64],
-    right: &[f64],
-    extra: u64,
-    out: &mut [u8; 832],
-) -> usize
-    ensures { Outcomes.Put result out.old out.new (Requests.rotation_tangent_call call left.now right.now extra) }
+#[tactic(auto, unfolding(crate::specs::Requests::rotation_tangent_call, outcomes::specs::Outcomes::Answered))]
+fn rotation_tangent_call(r: Request<'_>, out: &mut [u8; 832]) -> Option<usize>
+    ensures { Outcomes.Answered result out.old out.new (Requests.rotation_tangent_call r.entry) }
 {
-    match call {
-        32 => outcomes::put_matrix3(out, so3_tangent_blocks::hat(left)),
-        33 => outcomes::put_matrix3(out, so3_tangent_blocks::small_adj(left)),
-        34 => outcomes::put_rotation_tangent(out, so3_tangent_blocks::lie_bracket(left, right)),
-        35 => outcomes::put_rotation_tangent(out, so3_tangent_blocks::normalize_tangent(left)),
-        36 => outcomes::put_rotation_tangent(out, so3_tangent_blocks::normalized_tangent(left)),
-        37 => outcomes::put_matrix3(
+    match r.call {
+        32 => Some(outcomes::put(out, manifold_blocks::hat::<Tangent>(r.left))),
+        33 => Some(outcomes::put(out, manifold_blocks::small_adj::<Tangent>(r.left))),
+        34 => Some(outcomes::put(
             out,
-            so3_answers::matrix_answer(so3::generator(extra as usize)),
-        ),
-        38 => outcomes::put_rotation_tangent(
+            manifold_blocks::lie_bracket::<Tangent>(r.left, r.right),
+        )),
+        35 => Some(outcomes::put(out, manifold_blocks::normalize_tangent::<Tangent>(r.left))),
+        36 => Some(outcomes::put(out, manifold_blocks::normalized_tangent::<Tangent>(r.left))),
+        37 => Some(outcomes::put(
             out,
-            so3_answers::tangent_answer(so3::Tangent::zero()),
-        ),
-        39 => outcomes::put_rotation(out, so3_answers::element_answer(so3::Element::identity())),
-        _ => 0,
+            manifold::answered(Tangent::generator(r.extra as usize)),
+        )),
+        38 => Some(outcomes::put(out, manifold::answered(Tangent::zero()))),
+        39 => Some(outcomes::put(out, manifold::answered(Element::identity()))),
+        _ => None,
     }
 }
 
 // Plus of a rotation and a tangent, from either side.
-#[tactic(auto, unfolding(crate::specs::Requests::rotation_plus_call))]
-fn rotation_plus_call(
-    call: u64,
-    left: &[f64],
-    right: &[f64],
-    extra: u64,
-    out: &mut [u8; 832],
-) -> usize
-    ensures { Outcomes.Put result out.old out.new (Requests.rotation_plus_call call left.now right.now extra) }
+#[tactic(auto, unfolding(crate::specs::Requests::rotation_plus_call, outcomes::specs::Outcomes::Answered))]
+fn rotation_plus_call(r: Request<'_>, out: &mut [u8; 832]) -> Option<usize>
+    ensures { Outcomes.Answered result out.old out.new (Requests.rotation_plus_call r.entry) }
 {
-    match call {
-        40 => outcomes::put_rotation(out, manifold_blocks::so3_right_plus(left, right)),
-        41 => outcomes::put_matrix3(
+    match r.call {
+        40 => Some(outcomes::put(out, manifold_blocks::right_plus::<Element>(r.left, r.right))),
+        41 => Some(outcomes::put(
             out,
-            manifold_blocks::so3_right_plus_jacobian_self(left, right),
-        ),
-        42 => outcomes::put_matrix3(
+            manifold_blocks::right_plus_jacobian_self::<Element>(r.left, r.right),
+        )),
+        42 => Some(outcomes::put(
             out,
-            manifold_blocks::so3_right_plus_jacobian_tangent(left, right),
-        ),
-        43 => outcomes::put_rotation(out, manifold_blocks::so3_left_plus(left, right)),
-        44 => outcomes::put_matrix3(
+            so3_blocks::right_plus_jacobian_tangent(r.left, r.right),
+        )),
+        43 => Some(outcomes::put(out, manifold_blocks::left_plus::<Element>(r.left, r.right))),
+        44 => Some(outcomes::put(out, so3_blocks::left_plus_jacobian_tangent(r.left, r.right))),
+        45 => Some(outcomes::put(
             out,
-            manifold_blocks::so3_left_plus_jacobian_tangent(left, right),
-        ),
-        45 => outcomes::put_matrix3(
-            out,
-            manifold_blocks::so3_left_plus_jacobian_self(left, right),
-        ),
-        _ => 0,
+            manifold_blocks::left_plus_jacobian_self::<Element>(r.left, r.right),
+        )),
+        _ => None,
     }
 }
 
 // Minus of two rotations, from either side.
-#[tactic(auto, unfolding(crate::specs::Requests::rotation_minus_call))]
-fn rotation_minus_call(
-    call: u64,
-    left: &[f64],
-    right: &[f64],
-    extra: u64,
-    out: &mut [u8; 832],
-) -> usize
-    ensures { Outcomes.Put result out.old out.new (Requests.rotation_minus_call call left.now right.now extra) }
+#[tactic(auto, unfolding(crate::specs::Requests::rotation_minus_call, outcomes::specs::Outcomes::Answered))]
+fn rotation_minus_call(r: Request<'_>, out: &mut [u8; 832]) -> Option<usize>
+    ensures { Outcomes.Answered result out.old out.new (Requests.rotation_minus_call r.entry) }
 {
-    match call {
-        46 => outcomes::put_rotation_tangent(out, manifold_blocks::so3_right_minus(left, right)),
-        47 => outcomes::put_matrix3(
+    match r.call {
+        46 => Some(outcomes::put(
             out,
-            manifold_blocks::so3_right_minus_jacobian_self(left, right),
-        ),
-        48 => outcomes::put_matrix3(
-            out,
-            manifold_blocks::so3_right_minus_jacobian_other(left, right),
-        ),
-        49 => outcomes::put_rotation_tangent(out, manifold_blocks::so3_left_minus(left, right)),
-        50 => outcomes::put_matrix3(
-            out,
-            manifold_blocks::so3_left_minus_jacobian_self(left, right),
-        ),
-        51 => outcomes::put_matrix3(
-            out,
-            manifold_blocks::so3_left_minus_jacobian_other(left, right),
-        ),
-        _ => 0,
+            manifold_blocks::right_minus::<Element>(r.left, r.right),
+        )),
+        47 => Some(outcomes::put(out, so3_blocks::right_minus_jacobian_self(r.left, r.right))),
+        48 => Some(outcomes::put(out, so3_blocks::right_minus_jacobian_other(r.left, r.right))),
+        49 => Some(outcomes::put(out, manifold_blocks::left_minus::<Element>(r.left, r.right))),
+        50 => Some(outcomes::put(out, so3_blocks::left_minus_jacobian_self(r.left, r.right))),
+        51 => Some(outcomes::put(out, so3_blocks::left_minus_jacobian_other(r.left, r.right))),
+        _ => None,
     }
 }
 
 // What leads from one rotation to another; plus and minus of rotations by their short names.
-#[tactic(auto, unfolding(crate::specs::Requests::rotation_between_call))]
-fn rotation_between_call(
-    call: u64,
-    left: &[f64],
-    right: &[f64],
-    extra: u64,
-    out: &mut [u8; 832],
-) -> usize
-    ensures { Outcomes.Put result out.old out.new (Requests.rotation_between_call call left.now right.now extra) }
+#[tactic(auto, unfolding(crate::specs::Requests::rotation_between_call, outcomes::specs::Outcomes::Answered))]
+fn rotation_between_call(r: Request<'_>, out: &mut [u8; 832]) -> Option<usize>
+    ensures { Outcomes.Answered result out.old out.new (Requests.rotation_between_call r.entry) }
 {
-    match call {
-        52 => outcomes::put_rotation(out, manifold_blocks::so3_between(left, right)),
-        53 => outcomes::put_matrix3(out, manifold_blocks::so3_between_jacobian_self(left, right)),
-        54 => outcomes::put_matrix3(
+    match r.call {
+        52 => Some(outcomes::put(out, manifold_blocks::between::<Element>(r.left, r.right))),
+        53 => Some(outcomes::put(
             out,
-            manifold_blocks::so3_between_jacobian_other(left, right),
-        ),
-        55 => outcomes::put_rotation(out, manifold_blocks::so3_plus(left, right)),
-        56 => outcomes::put_matrix3(out, manifold_blocks::so3_plus_jacobian_self(left, right)),
-        57 => outcomes::put_matrix3(out, manifold_blocks::so3_plus_jacobian_tangent(left, right)),
-        58 => outcomes::put_rotation_tangent(out, manifold_blocks::so3_minus(left, right)),
-        59 => outcomes::put_matrix3(out, manifold_blocks::so3_minus_jacobian_self(left, right)),
-        60 => outcomes::put_matrix3(out, manifold_blocks::so3_minus_jacobian_other(left, right)),
-        _ => 0,
+            manifold_blocks::between_jacobian_self::<Element>(r.left, r.right),
+        )),
+        54 => Some(outcomes::put(
+            out,
+            manifold_blocks::between_jacobian_other::<Element>(r.left, r.right),
+        )),
+        55 => Some(outcomes::put(out, manifold_blocks::plus::<Element>(r.left, r.right))),
+        56 => Some(outcomes::put(
+            out,
+            manifold_blocks::plus_jacobian_self::<Element>(r.left, r.right),
+        )),
+        57 => Some(outcomes::put(out, so3_blocks::plus_jacobian_tangent(r.left, r.right))),
+        58 => Some(outcomes::put(out, manifold_blocks::minus::<Element>(r.left, r.right))),
+        59 => Some(outcomes::put(out, so3_blocks::minus_jacobian_self(r.left, r.right))),
+        60 => Some(outcomes::put(out, so3_blocks::minus_jacobian_other(r.left, r.right))),
+        _ => None,
     }
 }
 
 // Of four values: the one call that takes no block.
-#[tactic(auto, unfolding(crate::specs::Requests::quaternion_call))]
-fn quaternion_call(left: &[f64], out: &mut [u8; 832]) -> usize
-    ensures { Outcomes.Put result out.old out.new (Requests.quaternion_call left.now) }
+#[tactic(auto, unfolding(crate::specs::Requests::quaternion_call, outcomes::specs::Outcomes::Answered))]
+fn quaternion_call(r: Request<'_>, out: &mut [u8; 832]) -> Option<usize>
+    ensures { Outcomes.Answered result out.old out.new (Requests.quaternion_call r.entry) }
 {
-    if left.len() != 4 {
-        return 0;
+    let q = r.left;
+    if q.len() != 4 {
+        return None;
     }
-    outcomes::put_rotation(
+    Some(outcomes::put(
         out,
-        so3_blocks::try_from_quaternion_wxyz(left[0], left[1], left[2], left[3]),
-    )
+        so3_blocks::try_from_quaternion_wxyz(q[0], q[1], q[2], q[3]),
+    ))
 }
 
-#[tactic(auto, unfolding(crate::specs::Requests::answer))]
-pub fn answer(call: u64, left: &[f64], right: &[f64], extra: u64, out: &mut [u8; 832]) -> usize
-    ensures { Outcomes.Put result out.old out.new (Requests.answer call left.now right.now extra) }
+#[tactic(auto, unfolding(crate::specs::Requests::answer, outcomes::specs::Outcomes::Answered))]
+pub fn answer(r: Request<'_>, out: &mut [u8; 832]) -> Option<usize>
+    ensures { Outcomes.Answered result out.old out.new (Requests.answer r.entry) }
 {
-    if call < 18 {
-        return rotation_call(call, left, right, extra, out);
+    if r.call < 18 {
+        return rotation_call(r, out);
     }
-    if call < 26 {
-        return rotation_log_call(call, left, right, extra, out);
+    if r.call < 26 {
+        return rotation_log_call(r, out);
     }
-    if call < 32 {
-        return rotation_exp_call(call, left, right, extra, out);
+    if r.call < 32 {
+        return rotation_exp_call(r, out);
     }
-    if call < 40 {
-        return rotation_tangent_call(call, left, right, extra, out);
+    if r.call < 40 {
+        return rotation_tangent_call(r, out);
     }
-    if call < 46 {
-        return rotation_plus_call(call, left, right, extra, out);
+    if r.call < 46 {
+        return rotation_plus_call(r, out);
     }
-    if call < 52 {
-        return rotation_minus_call(call, left, right, extra, out);
+    if r.call < 52 {
+        return rotation_minus_call(r, out);
     }
-    rotation_between_call(call, left, right, extra, out)
+    rotation_between_call(r, out)
 }

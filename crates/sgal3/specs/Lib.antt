@@ -1,2 +1,6 @@
 pub mod Elements
 pub mod Tangents
+pub mod Matrices
+pub mod Algebra
+pub mod Group
+pub mod Outcomes

@@ -9,6 +9,7 @@ use Rattle.linear.specs.Records.{vector, vec3, of_quaternion, mat3}
 use Rattle.linear.specs.declared.Vec3.{Vec3}
 use Rattle.linear.specs.declared.Mat3.{Mat3}
 use Rattle.so3.specs.Tangents as So3
+use Rattle.so3.specs.declared.Tangent as Rotations
 use Rattle.sgal3.specs.declared.Element.{Element}
 use Rattle.sgal3.specs.declared.Tangent.{Tangent}
 
@@ -32,13 +33,20 @@ exp a =
     let e = Series.exp rounded divisors (tangent a) in
     record { translation = vec3 e.translation; rotation = of_quaternion e.rotation; velocity = vec3 e.velocity; time = e.time }
 
+-- theta as a tangent of SO(3), and put back
+unfoldable pub turn : Tangent → Rotations.Tangent
+turn a = record { theta = a.theta }
+
+unfoldable pub with_theta : Tangent → Rotations.Tangent → Tangent
+with_theta a t = record { rho = a.rho; nu = a.nu; theta = t.theta; s = a.s }
+
 -- SO(3)'s, of theta: a norm not above 2^-52 leaves it
 unfoldable pub normalize : Tangent → Tangent
-normalize a = record { rho = a.rho; nu = a.nu; theta = (So3.normalize (record { theta = a.theta })).theta; s = a.s }
+normalize a = with_theta a (So3.normalize (turn a))
 
 -- SO(3)'s, of theta: a norm not above 2^-52 makes it zero
 unfoldable pub normalized : Tangent → Tangent
-normalized a = record { rho = a.rho; nu = a.nu; theta = (So3.normalized (record { theta = a.theta })).theta; s = a.s }
+normalized a = with_theta a (So3.normalized (turn a))
 
 unfoldable pub coeffs : Tangent → List Float
 coeffs a =

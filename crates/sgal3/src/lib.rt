@@ -2,11 +2,15 @@
 // normalises it, and an operation of SO(3) on that once more.
 #![tactic(auto)]
 
-ghost use Rattle.std.specs.Prelude.{◌≡◌};
+ghost use Rattle.std.specs.Prelude.{◌≡◌, length};
+ghost use Rattle.sgal3.specs.Algebra as Algebra;
 ghost use Rattle.sgal3.specs.Elements as Elements;
+ghost use Rattle.sgal3.specs.Group as Group;
+ghost use Rattle.sgal3.specs.Matrices as Matrices;
 ghost use Rattle.sgal3.specs.Tangents as Tangents;
 
 use linear::{Mat3, Quaternion, Vec3};
+use manifold::{Jacobian, LieGroup, Tangent as _, Values};
 
 // A block's values in their order: translation, quaternion w, x, y, z, velocity, time.
 #[derive(Clone, Copy)]
@@ -55,15 +59,95 @@ impl Element {
         self.rotation.normalize().normalize()
     }
 
-    pub fn rotation_matrix(self) -> Mat3
-        ensures { result ≡ Elements.rotation_matrix self }
+    // The eleven values of a block.
+    #[tactic(auto, unfolding(crate::specs::Elements::coeffs))]
+    pub fn coeffs(self) -> [f64; 11]
+        ensures { result ≡ Elements.coeffs self }
     {
-        self.rotation_quaternion().rotation_matrix()
+        let t = self.translation;
+        let q = self.rotation;
+        let v = self.velocity;
+        [t.x, t.y, t.z, q.w, q.x, q.y, q.z, v.x, v.y, v.z, self.time]
     }
 
-    pub fn compose(self, other: Element) -> Element
-        ensures { result ≡ Elements.compose self other }
+    // Velocity in column 3, translation in column 4.
+    #[tactic(auto, unfolding(crate::specs::Matrices::matrix, crate::specs::Elements::rotation_matrix, law::specs::Galilean::matrix, law::specs::Galilean::matrix_at, law::specs::Galilean::row5, law::specs::Galilean::rotation_matrix, law::specs::Rotation::rotation_matrix, law::specs::Rows::by_row, law::specs::Vector::zero))]
+    pub fn matrix(self) -> [f64; 25]
+        ensures { result ≡ Matrices.matrix self }
     {
+        let r = self.rotation_matrix();
+        let v = self.velocity;
+        let t = self.translation;
+        let x = r.row0;
+        let y = r.row1;
+        let z = r.row2;
+        [
+            x.x, x.y, x.z, v.x, t.x, y.x, y.y, y.z, v.y, t.y, z.x, z.y, z.z, v.z, t.z, 0.0, 0.0,
+            0.0, 1.0, self.time, 0.0, 0.0, 0.0, 0.0, 1.0,
+        ]
+    }
+}
+
+impl Values for Element {
+    ghost values = { Elements.coeffs };
+
+    // Whether all values are finite. A sum with one that is not is not finite, so one test tells of all, unless the sum itself overflows. It
+    // is taken in pairs, as the compiler holds the values.
+    fn is_finite(&self) -> bool {
+        let t = self.translation;
+        let q = self.rotation;
+        let v = self.velocity;
+        let first = t.x + q.w + (q.y + v.x);
+        let second = t.y + q.x + (q.z + v.y);
+        if float::is_finite(first + second + (t.z + v.z + self.time)) {
+            return true;
+        }
+        let values = self.coeffs();
+        checks::all_finite(&values)
+    }
+}
+
+impl Values for Tangent {
+    ghost values = { Tangents.coeffs };
+
+    fn is_finite(&self) -> bool {
+        checks::all_finite(&self.coeffs())
+    }
+}
+
+impl LieGroup for Element {
+    type TangentVector = Tangent;
+
+    type JacobianMatrix = [[f64; 10]; 10];
+
+    type ActJacobian = [f64; 30];
+
+    ghost group = { Group.group };
+
+    fn dim() -> usize {
+        11
+    }
+
+    fn quaternion() -> usize {
+        3
+    }
+
+    #[tactic(auto, unfolding(crate::specs::Elements::element_of, manifold::specs::Answers::vector_at))]
+    fn element_of(s: &[f64]) -> Element {
+        Element {
+            translation: manifold::vector_at(s, 0),
+            rotation: Quaternion {
+                w: s[3],
+                x: s[4],
+                y: s[5],
+                z: s[6],
+            },
+            velocity: manifold::vector_at(s, 7),
+            time: s[10],
+        }
+    }
+
+    fn compose(self, other: Element) -> Element {
         let rot = self.rotation_quaternion();
         let v = self.velocity;
         let s2 = other.time;
@@ -81,9 +165,7 @@ impl Element {
         }
     }
 
-    pub fn inverse(self) -> Element
-        ensures { result ≡ Elements.inverse self }
-    {
+    fn inverse(self) -> Element {
         let rotation = self.rotation_quaternion().conjugate();
         let rot_inv = rotation.normalize();
         let v = self.velocity;
@@ -98,51 +180,8 @@ impl Element {
         }
     }
 
-    // Divides by the norm three times: rotation_impl once, SO(3)'s normalize twice.
-    #[tactic(auto, unfolding(crate::specs::Elements::normalize, crate::specs::Elements::rotation_impl, so3::specs::Elements::normalize, law::specs::Galilean::normalize))]
-    pub fn normalize(self) -> Element
-        ensures { result ≡ Elements.normalize self }
-    {
-        let translation = self.translation;
-        let rot = self.rotation_impl().normalize();
-        let rotation = rot.params;
-        let velocity = self.velocity;
-        Element {
-            translation,
-            rotation,
-            velocity,
-            time: self.time,
-        }
-    }
-
-    // The point is taken at the element's own time.
-    pub fn act(self, vector: Vec3) -> Vec3
-        ensures { result ≡ Elements.act self vector }
-    {
-        self.rotation_quaternion()
-            .rotate(vector)
-            .add(self.translation)
-            .add(self.velocity.scale(self.time))
-    }
-
-    // Sees the quaternion after rotation_impl has normalised it.
-    #[tactic(auto, unfolding(crate::specs::Elements::is_valid))]
-    pub fn is_valid(self, tolerance: f64) -> bool
-        ensures { result ≡ Elements.is_valid self tolerance }
-    {
-        let t = self.translation;
-        let v = self.velocity;
-        let values = [t.x, t.y, t.z, v.x, v.y, v.z, self.time];
-        if !checks::all_finite(&values) {
-            return false;
-        }
-        self.rotation_impl().is_valid(tolerance)
-    }
-
     // The series branch; the call refuses where it would be left.
-    pub fn log(self) -> Tangent
-        ensures { result ≡ Elements.log self }
-    {
+    fn log(self) -> Tangent {
         let turn = self.rotation_impl().log();
         let theta = turn.theta;
         let v_inv = turn.left_jacobian_inv();
@@ -157,15 +196,104 @@ impl Element {
         }
     }
 
-    // The eleven values of a block.
-    #[tactic(auto, unfolding(crate::specs::Elements::coeffs))]
-    pub fn coeffs(self) -> [f64; 11]
-        ensures { result ≡ Elements.coeffs self }
-    {
+    // Log tests the half angle, and the squared theta of its own answer.
+    #[tactic(auto, unfolding(crate::specs::Group::log_leaves_series))]
+    fn leaves_series(self) -> bool {
+        self.rotation_impl().log_jacobian_leaves_series()
+    }
+
+    // The point is taken at the element's own time.
+    fn act(self, vector: Vec3) -> Vec3 {
+        self.rotation_quaternion()
+            .rotate(vector)
+            .add(self.translation)
+            .add(self.velocity.scale(self.time))
+    }
+
+    fn rotation_matrix(self) -> Mat3 {
+        self.rotation_quaternion().rotation_matrix()
+    }
+
+    // Divides by the norm three times: rotation_impl once, SO(3)'s normalize twice.
+    #[tactic(auto, unfolding(crate::specs::Elements::normalize, crate::specs::Elements::rotation_impl, so3::specs::Elements::normalize, law::specs::Galilean::normalize))]
+    fn normalize(self) -> Element {
+        let translation = self.translation;
+        let rot = self.rotation_impl().normalize();
+        let rotation = rot.params;
+        let velocity = self.velocity;
+        Element {
+            translation,
+            rotation,
+            velocity,
+            time: self.time,
+        }
+    }
+
+    // Sees the quaternion after rotation_impl has normalised it.
+    #[tactic(auto, unfolding(crate::specs::Elements::is_valid))]
+    fn is_valid(self, tolerance: f64) -> bool {
         let t = self.translation;
-        let q = self.rotation;
         let v = self.velocity;
-        [t.x, t.y, t.z, q.w, q.x, q.y, q.z, v.x, v.y, v.z, self.time]
+        let values = [t.x, t.y, t.z, v.x, v.y, v.z, self.time];
+        if !checks::all_finite(&values) {
+            return false;
+        }
+        self.rotation_impl().is_valid(tolerance)
+    }
+
+    #[tactic(auto, unfolding(crate::specs::Matrices::jacobian_identity, sgal3_rows::specs::TenRows::by_blocks, linear::specs::Matrices::identity, linear::specs::Vectors::zero, law::specs::Galilean::jacobian_identity))]
+    fn jacobian_identity() -> [[f64; 10]; 10] {
+        let n = Vec3::zero();
+        let z = Mat3 {
+            row0: n,
+            row1: n,
+            row2: n,
+        };
+        sgal3_rows::by_blocks(Mat3::identity(), z, z, z, n, 1.0)
+    }
+
+    fn adjoint(self) -> [[f64; 10]; 10] {
+        let r = self.rotation_matrix();
+        let v = self.velocity;
+        let b = r.scale(-self.time);
+        let nu_skew = Mat3::hat(v);
+        let c = Mat3::hat(self.translation)
+            .sub(nu_skew.scale(self.time))
+            .mul(r);
+        sgal3_rows::by_blocks(r, b, c, nu_skew.mul(r), v, 1.0)
+    }
+
+    // The adjoint is negated after it is filled.
+    #[tactic(auto, unfolding(crate::specs::Matrices::inverse_jacobian, sgal3_rows::specs::TenRows::neg, crate::specs::Matrices::adjoint, law::specs::Galilean::inverse_jacobian))]
+    fn inverse_jacobian(self) -> [[f64; 10]; 10] {
+        self.adjoint().neg()
+    }
+
+    #[tactic(auto, unfolding(crate::specs::Matrices::compose_jacobian_self, crate::specs::Matrices::adjoint, crate::specs::Elements::inverse, law::specs::Galilean::compose_jacobian_self))]
+    fn compose_jacobian_self(self, other: Element) -> [[f64; 10]; 10] {
+        other.inverse().adjoint()
+    }
+
+    // Of self.act(p) with respect to a, three rows of ten; with respect to p it is the rotation matrix.
+    fn act_jacobian_self(self, vector: Vec3) -> [f64; 30] {
+        let r = self.rotation_matrix();
+        let b = r.scale(self.time);
+        let c = r.neg().mul(Mat3::hat(vector));
+        let d = self.velocity.scale(2.0);
+        let rx = r.row0;
+        let ry = r.row1;
+        let rz = r.row2;
+        let bx = b.row0;
+        let by = b.row1;
+        let bz = b.row2;
+        let cx = c.row0;
+        let cy = c.row1;
+        let cz = c.row2;
+        [
+            rx.x, rx.y, rx.z, bx.x, bx.y, bx.z, cx.x, cx.y, cx.z, d.x, ry.x, ry.y, ry.z, by.x,
+            by.y, by.z, cy.x, cy.y, cy.z, d.y, rz.x, rz.y, rz.z, bz.x, bz.y, bz.z, cz.x, cz.y,
+            cz.z, d.z,
+        ]
     }
 }
 
@@ -186,10 +314,63 @@ fn s_nu_coupling(theta: Vec3) -> Mat3
 }
 
 impl Tangent {
-    #[tactic(auto, unfolding(crate::specs::Tangents::zero, linear::specs::Vectors::zero))]
-    pub fn zero() -> Tangent
-        ensures { result ≡ Tangents.zero }
+    // Theta as a tangent of SO(3), and put back.
+    #[tactic(auto, unfolding(crate::specs::Tangents::turn))]
+    fn turn(self) -> so3::Tangent
+        ensures { result ≡ Tangents.turn self }
     {
+        so3::Tangent { theta: self.theta }
+    }
+
+    #[tactic(auto, unfolding(crate::specs::Tangents::with_theta))]
+    fn with_theta(self, turn: so3::Tangent) -> Tangent
+        ensures { result ≡ Tangents.with_theta self turn }
+    {
+        Tangent {
+            theta: turn.theta,
+            ..self
+        }
+    }
+
+    // The ten values of a tangent.
+    #[tactic(auto, unfolding(crate::specs::Tangents::coeffs))]
+    pub fn coeffs(self) -> [f64; 10]
+        ensures { result ≡ Tangents.coeffs self }
+    {
+        let rho = self.rho;
+        let nu = self.nu;
+        let theta = self.theta;
+        [
+            rho.x, rho.y, rho.z, nu.x, nu.y, nu.z, theta.x, theta.y, theta.z, self.s,
+        ]
+    }
+}
+
+impl manifold::Tangent for Tangent {
+    type Group = Element;
+
+    type JacobianMatrix = [[f64; 10]; 10];
+
+    type LieAlgebra = [f64; 36];
+
+    ghost tangents = { Group.tangents };
+
+    fn dim() -> usize {
+        10
+    }
+
+    #[tactic(auto, unfolding(crate::specs::Tangents::tangent_of, manifold::specs::Answers::vector_at))]
+    fn tangent_of(s: &[f64]) -> Tangent {
+        Tangent {
+            rho: manifold::vector_at(s, 0),
+            nu: manifold::vector_at(s, 3),
+            theta: manifold::vector_at(s, 6),
+            s: s[9],
+        }
+    }
+
+    #[tactic(auto, unfolding(crate::specs::Tangents::zero, linear::specs::Vectors::zero))]
+    fn zero() -> Tangent {
         Tangent {
             rho: Vec3::zero(),
             nu: Vec3::zero(),
@@ -199,9 +380,7 @@ impl Tangent {
     }
 
     // The series branch; the call refuses where it would be left.
-    pub fn exp(self) -> Element
-        ensures { result ≡ Tangents.exp self }
-    {
+    fn exp(self) -> Element {
         let nu = self.nu;
         let theta = self.theta;
         let turn = so3::Tangent { theta };
@@ -221,52 +400,139 @@ impl Tangent {
         }
     }
 
+    // Exp tests the squared theta.
+    #[tactic(auto, unfolding(crate::specs::Group::exp_leaves_series))]
+    fn leaves_series(self) -> bool {
+        self.turn().leaves_series()
+    }
+
+    #[tactic(auto, unfolding(crate::specs::Algebra::hat, crate::specs::Algebra::lie_algebra, linear::specs::Matrices::hat, law::specs::Galilean::hat))]
+    fn hat(self) -> [f64; 36] {
+        lie_algebra(Mat3::hat(self.theta), self.rho, self.nu, self.s)
+    }
+
+    fn generator(i: usize) -> [f64; 36] {
+        generator(i)
+    }
+
+    // -s I is nine products: where s is above zero its other six places hold -0.
+    #[tactic(auto, unfolding(crate::specs::Algebra::small_adj, sgal3_rows::specs::TenRows::by_blocks, linear::specs::Matrices::hat, linear::specs::Matrices::identity, linear::specs::Matrices::scale, law::specs::Galilean::small_adj))]
+    fn small_adj(self) -> [[f64; 10]; 10] {
+        let nu = self.nu;
+        let rho_skew = Mat3::hat(self.rho);
+        let nu_skew = Mat3::hat(nu);
+        let theta_skew = Mat3::hat(self.theta);
+        let b = Mat3::identity().scale(-self.s);
+        sgal3_rows::by_blocks(theta_skew, b, rho_skew, nu_skew, nu, 0.0)
+    }
+
+    #[tactic(auto, unfolding(crate::specs::Algebra::lie_bracket, crate::specs::Algebra::apply, crate::specs::Algebra::small_adj, law::specs::Galilean::lie_bracket))]
+    fn lie_bracket(self, other: Tangent) -> Tangent {
+        apply(self.small_adj(), other)
+    }
+
     // Theta is kept as it is where its norm is not above 2^-52.
     #[tactic(auto, unfolding(crate::specs::Tangents::normalize))]
-    pub fn normalize(self) -> Tangent
-        ensures { result ≡ Tangents.normalize self }
-    {
-        let rho = self.rho;
-        let nu = self.nu;
-        let given = self.theta;
-        let turn = so3::Tangent { theta: given }.normalize();
-        let theta = turn.theta;
-        Tangent {
-            rho,
-            nu,
-            theta,
-            s: self.s,
-        }
+    fn normalize(self) -> Tangent {
+        self.with_theta(self.turn().normalize())
     }
 
     // Theta is made zero where its norm is not above 2^-52.
     #[tactic(auto, unfolding(crate::specs::Tangents::normalized))]
-    pub fn normalized(self) -> Tangent
-        ensures { result ≡ Tangents.normalized self }
-    {
-        let rho = self.rho;
-        let nu = self.nu;
-        let given = self.theta;
-        let turn = so3::Tangent { theta: given }.normalized();
-        let theta = turn.theta;
-        Tangent {
-            rho,
-            nu,
-            theta,
-            s: self.s,
-        }
+    fn normalized(self) -> Tangent {
+        self.with_theta(self.turn().normalized())
     }
+}
 
-    // The ten values of a tangent.
-    #[tactic(auto, unfolding(crate::specs::Tangents::coeffs))]
-    pub fn coeffs(self) -> [f64; 10]
-        ensures { result ≡ Tangents.coeffs self }
-    {
-        let rho = self.rho;
-        let nu = self.nu;
-        let theta = self.theta;
-        [
-            rho.x, rho.y, rho.z, nu.x, nu.y, nu.z, theta.x, theta.y, theta.z, self.s,
-        ]
+// ---- The Lie algebra
+
+// The layout of the algebra: a matrix top left, rho in column 3, nu in column 4, s at (3,5).
+#[tactic(auto, unfolding(crate::specs::Algebra::lie_algebra, law::specs::Galilean::lie_algebra, law::specs::Rows::by_row, law::specs::Vector::zero))]
+fn lie_algebra(h: Mat3, rho: Vec3, nu: Vec3, s: f64) -> [f64; 36]
+    ensures { result ≡ Algebra.lie_algebra h rho nu s }
+{
+    let x = h.row0;
+    let y = h.row1;
+    let z = h.row2;
+    [
+        x.x, x.y, x.z, rho.x, nu.x, 0.0, y.x, y.y, y.z, rho.y, nu.y, 0.0, z.x, z.y, z.z, rho.z,
+        nu.z, 0.0, 0.0, 0.0, 0.0, 0.0, 0.0, s, 0.0, 0.0, 0.0, 0.0, 0.0, 0.0, 0.0, 0.0, 0.0, 0.0,
+        0.0, 0.0,
+    ]
+}
+
+// A row times a tangent: the first product first, the others added to it from the left.
+#[tactic(auto, unfolding(crate::specs::Algebra::dot, law::specs::Rows::dot, law::specs::Galilean::coeffs, law::specs::Galilean::row10))]
+fn dot(r: [f64; 10], t: Tangent) -> f64
+    ensures { result ≡ Algebra.dot r t }
+{
+    let rho = t.rho;
+    let nu = t.nu;
+    let theta = t.theta;
+    r[0] * rho.x
+        + r[1] * rho.y
+        + r[2] * rho.z
+        + r[3] * nu.x
+        + r[4] * nu.y
+        + r[5] * nu.z
+        + r[6] * theta.x
+        + r[7] * theta.y
+        + r[8] * theta.z
+        + r[9] * t.s
+}
+
+#[tactic(auto, unfolding(crate::specs::Algebra::apply, crate::specs::Algebra::dot, law::specs::Galilean::apply_tangent, law::specs::Galilean::tangent, law::specs::Rows::apply))]
+pub fn apply(m: [[f64; 10]; 10], t: Tangent) -> Tangent
+    ensures { result ≡ Algebra.apply m t }
+{
+    Tangent {
+        rho: Vec3 {
+            x: dot(m[0], t),
+            y: dot(m[1], t),
+            z: dot(m[2], t),
+        },
+        nu: Vec3 {
+            x: dot(m[3], t),
+            y: dot(m[4], t),
+            z: dot(m[5], t),
+        },
+        theta: Vec3 {
+            x: dot(m[6], t),
+            y: dot(m[7], t),
+            z: dot(m[8], t),
+        },
+        s: dot(m[9], t),
     }
+}
+
+// The unit vector along axis i; zero from i = 3.
+#[tactic(auto, unfolding(crate::specs::Algebra::axis))]
+fn axis(i: usize) -> Vec3
+    ensures { result ≡ Algebra.axis i }
+{
+    let e = Mat3::identity();
+    match i {
+        0 => e.row0,
+        1 => e.row1,
+        2 => e.row2,
+        _ => Vec3::zero(),
+    }
+}
+
+// The generator of place i of a tangent; the zero matrix from i = 10. SO(3)'s generator(3) is the zero matrix.
+#[tactic(auto, unfolding(crate::specs::Algebra::generator))]
+fn generator(i: usize) -> [f64; 36]
+    ensures { result ≡ Algebra.generator i }
+{
+    let n = Vec3::zero();
+    if i < 3 {
+        return lie_algebra(so3::Tangent::generator(3), axis(i), n, 0.0);
+    }
+    if i < 6 {
+        return lie_algebra(so3::Tangent::generator(3), n, axis(i - 3), 0.0);
+    }
+    if i == 9 {
+        return lie_algebra(so3::Tangent::generator(3), n, n, 1.0);
+    }
+    lie_algebra(so3::Tangent::generator(i - 6), n, n, 0.0)
 }

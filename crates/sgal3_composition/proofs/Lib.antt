@@ -1,4 +1,4 @@
 pub mod Blocks
 pub mod Answers
 pub mod Order
-pub mod Sums
+pub mod Generic

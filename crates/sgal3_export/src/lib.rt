@@ -1,27 +1,34 @@
 // exp, log and adjoint for C and Rust, to be timed there: a call on a block of values, and its outcome as bytes.
 #![tactic(auto)]
 
+ghost use Rattle.manifold_blocks.specs.Calls as Calls;
 ghost use Rattle.outcomes.specs.Outcomes as Outcomes;
-ghost use Rattle.sgal3_blocks.specs.Calls as Calls;
-ghost use Rattle.sgal3_matrix_blocks.specs.Calls as Matrices;
+ghost use Rattle.sgal3.specs.Elements as Elements;
+ghost use Rattle.sgal3.specs.Group.{group, tangents};
+ghost use Rattle.sgal3.specs.Tangents as Tangents;
+ghost use Rattle.sgal3_rows.specs.TenRows as TenRows;
+
+use sgal3::{Element, Tangent};
+
+// Three names for C, which knows no type parameters.
 
 #[unsafe(no_mangle)]
 pub extern "C" fn sgal3_exp(tangent: &[f64], out: &mut [u8; 832]) -> usize
-    ensures { Outcomes.Put result out.old out.new (Outcomes.of_element (Calls.exp tangent.now)) }
+    ensures { Outcomes.Put result out.old out.new (Outcomes.of Elements.coeffs 0 (Calls.exp tangents Elements.coeffs tangent.now)) }
 {
-    outcomes::put_element(out, sgal3_blocks::exp(tangent))
+    outcomes::put(out, manifold_blocks::exp::<Tangent>(tangent))
 }
 
 #[unsafe(no_mangle)]
 pub extern "C" fn sgal3_log(block: &[f64], out: &mut [u8; 832]) -> usize
-    ensures { Outcomes.Put result out.old out.new (Outcomes.of_tangent (Calls.log block.now)) }
+    ensures { Outcomes.Put result out.old out.new (Outcomes.of Tangents.coeffs 0 (Calls.log group Tangents.coeffs block.now)) }
 {
-    outcomes::put_tangent(out, sgal3_blocks::log(block))
+    outcomes::put(out, manifold_blocks::log::<Element>(block))
 }
 
 #[unsafe(no_mangle)]
 pub extern "C" fn sgal3_adjoint(block: &[f64], out: &mut [u8; 832]) -> usize
-    ensures { Outcomes.Put result out.old out.new (Outcomes.of_matrix10 (Matrices.adjoint block.now)) }
+    ensures { Outcomes.Put result out.old out.new (Outcomes.of TenRows.values 100 (Calls.adjoint group TenRows.values block.now)) }
 {
-    outcomes::put_matrix10(out, sgal3_matrix_blocks::adjoint(block))
+    outcomes::put(out, manifold_blocks::adjoint::<Element>(block))
 }

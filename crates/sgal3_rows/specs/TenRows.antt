@@ -1,13 +1,11 @@
 -- Matrices of ten rows of ten: a list of the rows. Definitions only.
-use Rattle.std.specs.Prelude.{List, map, Float}
+use Rattle.std.specs.Prelude.{List, [], ◌∷◌, ◌++◌, map, Float}
 use Rattle.law.specs.Rounded.{rounded}
 use Rattle.law.specs.Rows as Rows
 use Rattle.law.specs.Galilean as Law
 use Rattle.linear.specs.Records.{vector, matrix as of_mat3}
 use Rattle.linear.specs.declared.Vec3.{Vec3}
 use Rattle.linear.specs.declared.Mat3.{Mat3}
-use Rattle.sgal3.specs.Tangents.{tangent, of_tangent}
-use Rattle.sgal3.specs.declared.Tangent.{Tangent}
 
 unfoldable pub row10 : Vec3 → Vec3 → Vec3 → Float → List Float
 row10 a b c k = Law.row10 rounded (vector a) (vector b) (vector c) k
@@ -21,9 +19,7 @@ neg_row r = map (λ x. rounded.neg x) r
 unfoldable pub neg : List (List Float) → List (List Float)
 neg m = Rows.neg rounded m
 
--- a row times a tangent, and a matrix
-unfoldable pub dot : List Float → Tangent → Float
-dot r t = Rows.dot rounded r (Law.coeffs rounded (tangent t))
-
-unfoldable pub apply : List (List Float) → Tangent → Tangent
-apply m t = of_tangent (Law.apply_tangent rounded m (tangent t))
+-- the hundred values, by row
+unfoldable pub values : List (List Float) → List Float
+values [] = []
+values (r ∷ rs) = r ++ values rs

@@ -1,11 +1,11 @@
-// Matrices of ten rows of ten for the Galilean group: their layout by blocks, negation, a matrix times a tangent.
+// Matrices of ten rows of ten for the Galilean group: their layout by blocks, negation, the test of their values.
 #![tactic(auto)]
 
 ghost use Rattle.std.specs.Prelude.{◌≡◌};
+ghost use Rattle.checks.specs.Checks.{all_finite};
 ghost use Rattle.sgal3_rows.specs.TenRows as TenRows;
 
 use linear::{Mat3, Vec3};
-use sgal3::Tangent;
 
 #[tactic(auto, unfolding(crate::specs::TenRows::row10, law::specs::Galilean::row10))]
 fn row10(a: Vec3, b: Vec3, c: Vec3, k: f64) -> [f64; 10]
@@ -33,6 +33,7 @@ pub fn by_blocks(r: Mat3, b: Mat3, c: Mat3, d: Mat3, u: Vec3, k: f64) -> [[f64; 
     [m0, m1, m2, m3, m4, m5, m6, m7, m8, m9]
 }
 
+// The two are written out: of `map` the library promises a call for each place, from which the list would have to be put together by a lemma.
 #[tactic(auto, unfolding(crate::specs::TenRows::neg_row))]
 fn neg_row(r: [f64; 10]) -> [f64; 10]
     ensures { result ≡ TenRows.neg_row r }
@@ -60,46 +61,14 @@ pub fn neg(m: [[f64; 10]; 10]) -> [[f64; 10]; 10]
     [m0, m1, m2, m3, m4, m5, m6, m7, m8, m9]
 }
 
-// A row times a tangent: the first product first, the others added to it from the left.
-#[tactic(auto, unfolding(crate::specs::TenRows::dot, law::specs::Rows::dot, law::specs::Galilean::coeffs, law::specs::Galilean::row10))]
-fn dot(r: [f64; 10], t: Tangent) -> f64
-    ensures { result ≡ TenRows.dot r t }
+// Row by row: most matrices are answered, and then no row ends the loop.
+pub fn all_finite(m: &[[f64; 10]; 10]) -> bool
+    ensures { result ≡ all_finite (TenRows.values m.now) }
 {
-    let rho = t.rho;
-    let nu = t.nu;
-    let theta = t.theta;
-    r[0] * rho.x
-        + r[1] * rho.y
-        + r[2] * rho.z
-        + r[3] * nu.x
-        + r[4] * nu.y
-        + r[5] * nu.z
-        + r[6] * theta.x
-        + r[7] * theta.y
-        + r[8] * theta.z
-        + r[9] * t.s
-}
-
-#[tactic(auto, unfolding(crate::specs::TenRows::apply, crate::specs::TenRows::dot, law::specs::Galilean::apply_tangent, law::specs::Galilean::tangent, law::specs::Rows::apply))]
-pub fn apply(m: [[f64; 10]; 10], t: Tangent) -> Tangent
-    ensures { result ≡ TenRows.apply m t }
-{
-    Tangent {
-        rho: Vec3 {
-            x: dot(m[0], t),
-            y: dot(m[1], t),
-            z: dot(m[2], t),
-        },
-        nu: Vec3 {
-            x: dot(m[3], t),
-            y: dot(m[4], t),
-            z: dot(m[5], t),
-        },
-        theta: Vec3 {
-            x: dot(m[6], t),
-            y: dot(m[7], t),
-            z: dot(m[8], t),
-        },
-        s: dot(m[9], t),
+    for row in m {
+        if !checks::all_finite(row) {
+            return false;
+        }
     }
+    true
 }

@@ -1,6 +1,6 @@
 -- Elements of SO(3): the formulas of the group at the rounded operations. Definitions only.
-use Rattle.std.specs.Prelude.{Bool, false, cond, [], ◌∷◌, Float}
-use Rattle.std.specs.Float.{binary64}
+use Rattle.std.specs.Prelude.{Bool, false, cond, List, [], ◌∷◌, get_or, Float}
+use Rattle.std.specs.Float.{nan, binary64}
 use Rattle.std.specs.Float.Ieee.{sub, neg, lt}
 use Rattle.std.specs.Float.Ieee.Scale.{finite}
 use Rattle.float.specs.Exact.{abs}
@@ -22,6 +22,14 @@ element a = quaternion a.params
 
 abbrev pub of_element : Law-as-Quaternion.Quaternion Float → Element
 of_element q = record { params = of_quaternion q }
+
+-- w, x, y, z
+unfoldable pub values : Element → List Float
+values a = a.params.w ∷ a.params.x ∷ a.params.y ∷ a.params.z ∷ []
+
+-- a block's four values are kept as given
+unfoldable pub element_of : List Float → Element
+element_of s = record { params = record { w = get_or s 0 nan; x = get_or s 1 nan; y = get_or s 2 nan; z = get_or s 3 nan } }
 
 unfoldable pub identity : Element
 identity = of_element (Law-as-Quaternion.identity rounded)

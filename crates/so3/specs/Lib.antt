@@ -1,2 +1,5 @@
 pub mod Elements
 pub mod Tangents
+pub mod Group
+pub mod Jacobians
+pub mod Outcomes

@@ -1,5 +1,5 @@
 -- Tangents of SO(3): the series of exp and of the Jacobians at the rounded operations. Definitions only.
-use Rattle.std.specs.Prelude.{ℕ, cond, eqb, Float}
+use Rattle.std.specs.Prelude.{ℕ, cond, List, eqb, Float}
 use Rattle.std.specs.Float.{binary64}
 use Rattle.std.specs.Float.Ieee.{of_bits, lt}
 use Rattle.law.specs.Rounded.{rounded}
@@ -8,6 +8,7 @@ use Rattle.law.specs.Matrix as Law-as-Matrix
 use Rattle.law.specs.Rotation as Law
 use Rattle.law.specs.Series as Series
 use Rattle.linear.specs.Records.{vector, vec3, of_quaternion, mat3}
+use Rattle.manifold.specs.Answers.{vector_at, vector_values}
 use Rattle.linear.specs.declared.Vec3.{Vec3}
 use Rattle.linear.specs.declared.Mat3.{Mat3}
 use Rattle.so3.specs.declared.Element.{Element}
@@ -18,6 +19,12 @@ abbrev θ : Tangent → Law-as-Vector.Vector Float
 
 abbrev tangent : Law-as-Vector.Vector Float → Tangent
 tangent v = record { theta = vec3 v }
+
+unfoldable pub values : Tangent → List Float
+values a = vector_values a.theta
+
+unfoldable pub tangent_of : List Float → Tangent
+tangent_of s = record { theta = vector_at s 0 }
 
 unfoldable pub zero : Tangent
 zero = tangent (Law-as-Vector.zero rounded)
@@ -56,13 +63,17 @@ epsilon = of_bits binary64 0x3cb0_0000_0000_0000
 abbrev divided : Tangent → Tangent
 divided a = tangent (Law-as-Vector.divide rounded (θ a) (Law-as-Vector.norm rounded (θ a)))
 
--- a norm not above epsilon leaves it
-unfoldable pub normalize : Tangent → Tangent
-normalize a = cond (lt epsilon (Law-as-Vector.norm rounded (θ a))) (divided a) a
+-- a norm not above epsilon gives `small`
+unfoldable pub unit_or : Tangent → Tangent → Tangent
+unit_or a small = cond (lt epsilon (Law-as-Vector.norm rounded (θ a))) (divided a) small
 
--- a norm not above epsilon makes it zero
+-- it leaves the tangent
+unfoldable pub normalize : Tangent → Tangent
+normalize a = unit_or a a
+
+-- it makes it zero
 unfoldable pub normalized : Tangent → Tangent
-normalized a = cond (lt epsilon (Law-as-Vector.norm rounded (θ a))) (divided a) zero
+normalized a = unit_or a zero
 
 -- ---- generators
 abbrev 𝟘 : Float

@@ -2,11 +2,14 @@
 // normalises them first.
 #![tactic(auto)]
 
-ghost use Rattle.std.specs.Prelude.{◌≡◌};
+ghost use Rattle.std.specs.Prelude.{◌≡◌, length};
 ghost use Rattle.so3.specs.Elements as Elements;
+ghost use Rattle.so3.specs.Group as Group;
+ghost use Rattle.so3.specs.Jacobians as Jacobians;
 ghost use Rattle.so3.specs.Tangents as Tangents;
 
 use linear::{Mat3, Quaternion, Vec3};
+use manifold::{LieGroup, Tangent as _, Values};
 
 // The quaternion w, x, y, z, as it is stored.
 #[derive(Clone, Copy)]
@@ -56,53 +59,6 @@ impl Element {
         self.params.normalize()
     }
 
-    pub fn rotation_matrix(self) -> Mat3
-        ensures { result ≡ Elements.rotation_matrix self }
-    {
-        self.unit_quaternion().rotation_matrix()
-    }
-
-    #[tactic(auto, unfolding(crate::specs::Elements::inverse, crate::specs::Elements::unit_quaternion, linear::specs::Quaternions::conjugate, law::specs::Rotation::inverse))]
-    pub fn inverse(self) -> Element
-        ensures { result ≡ Elements.inverse self }
-    {
-        Element {
-            params: self.unit_quaternion().conjugate(),
-        }
-    }
-
-    // A product is not normalised again.
-    pub fn compose(self, other: Element) -> Element
-        ensures { result ≡ Elements.compose self other }
-    {
-        Element {
-            params: self.unit_quaternion().mul(other.unit_quaternion()),
-        }
-    }
-
-    #[tactic(auto, unfolding(crate::specs::Elements::act, crate::specs::Elements::unit_quaternion, linear::specs::Quaternions::rotate, law::specs::Rotation::act))]
-    pub fn act(self, vector: Vec3) -> Vec3
-        ensures { result ≡ Elements.act self vector }
-    {
-        self.unit_quaternion().rotate(vector)
-    }
-
-    #[tactic(auto, unfolding(crate::specs::Elements::adjoint, crate::specs::Elements::rotation_matrix, law::specs::Rotation::adjoint))]
-    pub fn adjoint(self) -> Mat3
-        ensures { result ≡ Elements.adjoint self }
-    {
-        self.rotation_matrix()
-    }
-
-    // Divides by the norm twice.
-    pub fn normalize(self) -> Element
-        ensures { result ≡ Elements.normalize self }
-    {
-        Element {
-            params: self.params.normalize().normalize(),
-        }
-    }
-
     // The squared sine of half the angle: what log tests.
     #[tactic(auto, unfolding(crate::specs::Elements::sin_angle_squared, crate::specs::Elements::unit_quaternion, linear::specs::Quaternions::vector, linear::specs::Vectors::norm_squared))]
     pub fn sin_angle_squared(self) -> f64
@@ -111,21 +67,159 @@ impl Element {
         self.unit_quaternion().vector().norm_squared()
     }
 
-    // The series branch; the call refuses where it would be left.
-    pub fn log(self) -> Tangent
-        ensures { result ≡ Elements.log self }
+    #[tactic(auto, unfolding(crate::specs::Elements::log_jacobian, crate::specs::Tangents::right_jacobian_inv))]
+    pub fn log_jacobian(self) -> Mat3
+        ensures { result ≡ Elements.log_jacobian self }
     {
+        self.log().right_jacobian_inv()
+    }
+
+    // Log's Jacobian tests the half angle, and the squared angle of log's answer.
+    #[tactic(auto, unfolding(crate::specs::Group::log_jacobian_leaves_series))]
+    pub fn log_jacobian_leaves_series(self) -> bool
+        ensures { result ≡ Group.log_jacobian_leaves_series self }
+    {
+        self.log().leaves_series() || self.leaves_series()
+    }
+
+    // ---- Jacobians of plus and minus; the others are those of any group
+
+    #[tactic(auto, unfolding(crate::specs::Jacobians::left_plus_jacobian_tangent))]
+    pub fn left_plus_jacobian_tangent(self, t: Tangent) -> Mat3
+        ensures { result ≡ Jacobians.left_plus_jacobian_tangent self t }
+    {
+        self.inverse().adjoint().mul(t.right_jacobian())
+    }
+
+    #[tactic(auto, unfolding(crate::specs::Jacobians::right_minus_jacobian_self))]
+    pub fn right_minus_jacobian_self(self, other: Element) -> Mat3
+        ensures { result ≡ Jacobians.right_minus_jacobian_self self other }
+    {
+        self.right_minus(other).right_jacobian_inv()
+    }
+
+    #[tactic(auto, unfolding(crate::specs::Jacobians::right_minus_jacobian_other))]
+    pub fn right_minus_jacobian_other(self, other: Element) -> Mat3
+        ensures { result ≡ Jacobians.right_minus_jacobian_other self other }
+    {
+        self.right_minus(other).left_jacobian_inv().neg()
+    }
+
+    #[tactic(auto, unfolding(crate::specs::Jacobians::left_minus_jacobian_self))]
+    pub fn left_minus_jacobian_self(self, other: Element) -> Mat3
+        ensures { result ≡ Jacobians.left_minus_jacobian_self self other }
+    {
+        self.left_minus(other)
+            .right_jacobian_inv()
+            .mul(other.adjoint())
+    }
+
+    #[tactic(auto, unfolding(crate::specs::Jacobians::left_minus_jacobian_other))]
+    pub fn left_minus_jacobian_other(self, other: Element) -> Mat3
+        ensures { result ≡ Jacobians.left_minus_jacobian_other self other }
+    {
+        self.left_minus_jacobian_self(other).neg()
+    }
+}
+
+impl Values for Element {
+    ghost values = { Elements.values };
+
+    #[tactic(auto, unfolding(crate::specs::Elements::values))]
+    fn is_finite(&self) -> bool {
+        let q = self.params;
+        checks::all_finite(&[q.w, q.x, q.y, q.z])
+    }
+}
+
+impl Values for Tangent {
+    ghost values = { Tangents.values };
+
+    #[tactic(auto, unfolding(crate::specs::Tangents::values))]
+    fn is_finite(&self) -> bool {
+        self.theta.is_finite()
+    }
+}
+
+impl LieGroup for Element {
+    type TangentVector = Tangent;
+
+    type JacobianMatrix = Mat3;
+
+    type ActJacobian = Mat3;
+
+    ghost group = { Group.group };
+
+    fn dim() -> usize {
+        4
+    }
+
+    fn quaternion() -> usize {
+        0
+    }
+
+    #[tactic(auto, unfolding(crate::specs::Elements::element_of))]
+    fn element_of(s: &[f64]) -> Element {
+        Element {
+            params: Quaternion {
+                w: s[0],
+                x: s[1],
+                y: s[2],
+                z: s[3],
+            },
+        }
+    }
+
+    #[tactic(auto, unfolding(crate::specs::Group::log_leaves_series))]
+    fn leaves_series(self) -> bool {
+        manifold::leaves_series(self.sin_angle_squared())
+    }
+
+    fn jacobian_identity() -> Mat3 {
+        Mat3::identity()
+    }
+
+    // A product is not normalised again.
+    fn compose(self, other: Element) -> Element {
+        Element {
+            params: self.unit_quaternion().mul(other.unit_quaternion()),
+        }
+    }
+
+    #[tactic(auto, unfolding(crate::specs::Elements::inverse, crate::specs::Elements::unit_quaternion, linear::specs::Quaternions::conjugate, law::specs::Rotation::inverse))]
+    fn inverse(self) -> Element {
+        Element {
+            params: self.unit_quaternion().conjugate(),
+        }
+    }
+
+    // The series branch; the call refuses where it would be left.
+    fn log(self) -> Tangent {
         let q = self.unit_quaternion();
         Tangent {
             theta: q.vector().scale(log_coeff(q.w)),
         }
     }
 
+    #[tactic(auto, unfolding(crate::specs::Elements::act, crate::specs::Elements::unit_quaternion, linear::specs::Quaternions::rotate, law::specs::Rotation::act))]
+    fn act(self, vector: Vec3) -> Vec3 {
+        self.unit_quaternion().rotate(vector)
+    }
+
+    fn rotation_matrix(self) -> Mat3 {
+        self.unit_quaternion().rotation_matrix()
+    }
+
+    // Divides by the norm twice.
+    fn normalize(self) -> Element {
+        Element {
+            params: self.params.normalize().normalize(),
+        }
+    }
+
     // A tolerance that is not finite is met by nothing.
     #[tactic(auto, unfolding(crate::specs::Elements::is_valid, checks::specs::Checks::norm_of))]
-    pub fn is_valid(self, tolerance: f64) -> bool
-        ensures { result ≡ Elements.is_valid self tolerance }
-    {
+    fn is_valid(self, tolerance: f64) -> bool {
         if !float::is_finite(tolerance) {
             return false;
         }
@@ -134,32 +228,24 @@ impl Element {
         float::magnitude(norm - 1.0) < tolerance
     }
 
+    #[tactic(auto, unfolding(crate::specs::Elements::adjoint, crate::specs::Elements::rotation_matrix, law::specs::Rotation::adjoint))]
+    fn adjoint(self) -> Mat3 {
+        self.rotation_matrix()
+    }
+
     // ---- Jacobians
-    pub fn inverse_jacobian(self) -> Mat3
-        ensures { result ≡ Elements.inverse_jacobian self }
-    {
+    fn inverse_jacobian(self) -> Mat3 {
         self.adjoint().neg()
     }
 
     // Of compose with respect to self.
-    pub fn compose_jacobian_self(self, other: Element) -> Mat3
-        ensures { result ≡ Elements.compose_jacobian_self self other }
-    {
+    fn compose_jacobian_self(self, other: Element) -> Mat3 {
         other.inverse().adjoint()
     }
 
     // Of act with respect to self: the rotation is negated before the product.
-    pub fn act_jacobian_self(self, vector: Vec3) -> Mat3
-        ensures { result ≡ Elements.act_jacobian_self self vector }
-    {
+    fn act_jacobian_self(self, vector: Vec3) -> Mat3 {
         self.rotation_matrix().neg().mul(Mat3::hat(vector))
-    }
-
-    #[tactic(auto, unfolding(crate::specs::Elements::log_jacobian, crate::specs::Tangents::right_jacobian_inv))]
-    pub fn log_jacobian(self) -> Mat3
-        ensures { result ≡ Elements.log_jacobian self }
-    {
-        self.log().right_jacobian_inv()
     }
 }
 
@@ -172,12 +258,18 @@ fn log_coeff(w: f64) -> f64
 }
 
 impl Tangent {
-    #[tactic(auto, unfolding(crate::specs::Tangents::zero, linear::specs::Vectors::zero))]
-    pub fn zero() -> Tangent
-        ensures { result ≡ Tangents.zero }
+    // Divided by its norm, or `small` where that is not above 2^-52.
+    #[tactic(auto, unfolding(crate::specs::Tangents::unit_or, linear::specs::Vectors::norm, linear::specs::Vectors::divide))]
+    fn unit_or(self, small: Tangent) -> Tangent
+        ensures { result ≡ Tangents.unit_or self small }
     {
-        Tangent {
-            theta: Vec3::zero(),
+        let norm = self.theta.norm();
+        if norm > 2.220446049250313e-16 {
+            Tangent {
+                theta: self.theta.divide(norm),
+            }
+        } else {
+            small
         }
     }
 
@@ -187,23 +279,6 @@ impl Tangent {
         ensures { result ≡ Tangents.theta_squared self }
     {
         self.theta.norm_squared()
-    }
-
-    // The series branch, as are the Jacobians; the calls refuse where it would be left.
-    #[tactic(auto, unfolding(crate::specs::Tangents::exp, linear::specs::Quaternions::normalize, law::specs::Series::exp, law::specs::Rotation::unit_quaternion))]
-    pub fn exp(self) -> Element
-        ensures { result ≡ Tangents.exp self }
-    {
-        let theta = self.theta;
-        let q = Quaternion {
-            w: 1.0,
-            x: theta.x / 2.0,
-            y: theta.y / 2.0,
-            z: theta.z / 2.0,
-        };
-        Element {
-            params: q.normalize(),
-        }
     }
 
     pub fn left_jacobian(self) -> Mat3
@@ -229,62 +304,91 @@ impl Tangent {
     {
         self.left_jacobian_inv().transpose()
     }
+}
+
+impl manifold::Tangent for Tangent {
+    type Group = Element;
+
+    type JacobianMatrix = Mat3;
+
+    type LieAlgebra = Mat3;
+
+    ghost tangents = { Group.tangents };
+
+    fn dim() -> usize {
+        3
+    }
+
+    #[tactic(auto, unfolding(crate::specs::Tangents::tangent_of))]
+    fn tangent_of(s: &[f64]) -> Tangent {
+        Tangent {
+            theta: manifold::vector_at(s, 0),
+        }
+    }
+
+    #[tactic(auto, unfolding(crate::specs::Group::exp_leaves_series))]
+    fn leaves_series(self) -> bool {
+        manifold::leaves_series(self.theta_squared())
+    }
+
+    fn generator(i: usize) -> Mat3 {
+        generator(i)
+    }
+
+    #[tactic(auto, unfolding(crate::specs::Tangents::zero, linear::specs::Vectors::zero))]
+    fn zero() -> Tangent {
+        Tangent {
+            theta: Vec3::zero(),
+        }
+    }
+
+    // The series branch, as are the Jacobians; the calls refuse where it would be left.
+    #[tactic(auto, unfolding(crate::specs::Tangents::exp, linear::specs::Quaternions::normalize, law::specs::Series::exp, law::specs::Rotation::unit_quaternion))]
+    fn exp(self) -> Element {
+        let theta = self.theta;
+        let q = Quaternion {
+            w: 1.0,
+            x: theta.x / 2.0,
+            y: theta.y / 2.0,
+            z: theta.z / 2.0,
+        };
+        Element {
+            params: q.normalize(),
+        }
+    }
 
     #[tactic(auto, unfolding(crate::specs::Tangents::hat, linear::specs::Matrices::hat))]
-    pub fn hat(self) -> Mat3
-        ensures { result ≡ Tangents.hat self }
-    {
+    fn hat(self) -> Mat3 {
         Mat3::hat(self.theta)
     }
 
     #[tactic(auto, unfolding(crate::specs::Tangents::small_adj))]
-    pub fn small_adj(self) -> Mat3
-        ensures { result ≡ Tangents.small_adj self }
-    {
+    fn small_adj(self) -> Mat3 {
         self.hat()
     }
 
     #[tactic(auto, unfolding(crate::specs::Tangents::lie_bracket, crate::specs::Tangents::small_adj, crate::specs::Tangents::hat, linear::specs::Matrices::apply, law::specs::Rotation::lie_bracket))]
-    pub fn lie_bracket(self, other: Tangent) -> Tangent
-        ensures { result ≡ Tangents.lie_bracket self other }
-    {
+    fn lie_bracket(self, other: Tangent) -> Tangent {
         Tangent {
             theta: self.small_adj().apply(other.theta),
         }
     }
 
     // Kept as it is where its norm is not above 2^-52.
-    #[tactic(auto, unfolding(crate::specs::Tangents::normalize, linear::specs::Vectors::norm, linear::specs::Vectors::divide))]
-    pub fn normalize(self) -> Tangent
-        ensures { result ≡ Tangents.normalize self }
-    {
-        let norm = self.theta.norm();
-        if norm > 2.220446049250313e-16 {
-            Tangent {
-                theta: self.theta.divide(norm),
-            }
-        } else {
-            self
-        }
+    #[tactic(auto, unfolding(crate::specs::Tangents::normalize))]
+    fn normalize(self) -> Tangent {
+        self.unit_or(self)
     }
 
     // Zero where its norm is not above 2^-52.
-    #[tactic(auto, unfolding(crate::specs::Tangents::normalized, linear::specs::Vectors::norm, linear::specs::Vectors::divide))]
-    pub fn normalized(self) -> Tangent
-        ensures { result ≡ Tangents.normalized self }
-    {
-        let norm = self.theta.norm();
-        if norm > 2.220446049250313e-16 {
-            Tangent {
-                theta: self.theta.divide(norm),
-            }
-        } else {
-            Tangent::zero()
-        }
+    #[tactic(auto, unfolding(crate::specs::Tangents::normalized))]
+    fn normalized(self) -> Tangent {
+        self.unit_or(Tangent::zero())
     }
 }
 
 // ---- Generators: turns about an axis
+// Written out, as is the zero matrix below: the hat of a unit vector has -0 where these have +0.
 #[tactic(auto, unfolding(crate::specs::Tangents::about_x))]
 fn about_x() -> Mat3
     ensures { result ≡ Tangents.about_x }
@@ -356,22 +460,20 @@ fn about_z() -> Mat3
 
 // The generator of turns about axis i; the zero matrix from i = 3.
 #[tactic(auto, unfolding(crate::specs::Tangents::generator, linear::specs::Vectors::zero, law::specs::Vector::zero))]
-pub fn generator(i: usize) -> Mat3
+fn generator(i: usize) -> Mat3
     ensures { result ≡ Tangents.generator i }
 {
-    if i == 0 {
-        return about_x();
-    }
-    if i == 1 {
-        return about_y();
-    }
-    if i == 2 {
-        return about_z();
-    }
-    let zero = Vec3::zero();
-    Mat3 {
-        row0: zero,
-        row1: zero,
-        row2: zero,
+    match i {
+        0 => about_x(),
+        1 => about_y(),
+        2 => about_z(),
+        _ => {
+            let zero = Vec3::zero();
+            Mat3 {
+                row0: zero,
+                row1: zero,
+                row2: zero,
+            }
+        }
     }
 }

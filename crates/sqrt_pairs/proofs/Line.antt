@@ -1,26 +1,22 @@
--- The line of a pattern: what two runs of stores leave. Assumes nothing.
+-- The line of a pattern: its digits stored behind the name. Assumes nothing.
+use Rattle.std.proofs.Common.{ℕ, ◌≡◌, ◌≤◌, ◌∙◌, ap, sym, List, [], ◌∷◌, ◌++◌, length, drop, append_assoc, length-append, arith}
+use Rattle.std.proofs.Math.Seq.{take-append_seam, drop-append-add}
+use Rattle.std.proofs.lemmas.List.Edits.{sets, sets-eq}
 use Prim.Native.Char.{code}
-use Prim.Native.Nat.{ℕ, ◌+◌}
-use mathlib.Core.Path.{◌≡◌, ap, ◌∙◌}
-use mathlib.Core.List.{List, [], ◌∷◌, ◌++◌, append_assoc}
-use native.Mathlib.Omega.{arith}
-use lib.ListN.{length, drop, length-append}
-use lib.Seq.{sets, sets-eq}
-use Rattle.words.proofs.Stores.{sets-append}
-use Rattle.sqrt_pairs.proofs.Hex.{hex-length}
+use Rattle.digits.proofs.Digits.{lower_hex-length}
+use Rattle.digits.specs.Digits.{lower_hex}
 use Rattle.sqrt_pairs.specs.Line.{last_digits, pattern_line}
 
-line-stored : (name d l : List ℕ) → length name ≡ 28 → length d ≡ 16 → length l ≡ 45 → sets (sets l 0 name) 28 d ≡ name ++ (d ++ drop 44 l)
-line-stored name d l hn hd hl =
-    let both : length (name ++ d) ≡ 44 = length-append name d ∙ omega arith in
-    let all : 0 + length (name ++ d) ≡ 44 = omega arith in
-    sets-append name d l 0 28 (omega arith)
-    ∙ sets-eq (name ++ d) l 0 (omega arith)
-    ∙ ap (λ (k : ℕ). (name ++ d) ++ drop k l) all
-    ∙ append_assoc name d (drop 44 l)
+stored-behind : (a rest d : List ℕ) → length d ≤ length rest → sets (a ++ rest) (length a) d ≡ a ++ (d ++ drop (length d) rest)
+stored-behind a rest d fits =
+    sets-eq d (a ++ rest) (length a) (omega (arith, length-append a rest)) ∙ simp (take-append_seam, drop-append-add, append_assoc)
 
-pub pattern-stored : (name l : List ℕ) (b : ℕ) → length name ≡ 28 → length l ≡ 45 → drop 44 l ≡ code "\n" ∷ []
-    → sets (sets l 0 name) 28 (last_digits 16 16 b) ≡ pattern_line name b
-unfolding pattern_line
-pattern-stored name l b hn hl end =
-    line-stored name (last_digits 16 16 b) l hn (hex-length 16 16 b) hl ∙ rw end
+pub pattern-stored : (name rest : List ℕ) (b : ℕ) → length name ≡ 28 → length rest ≡ 17 → drop 16 rest ≡ code "\n" ∷ []
+    → sets (name ++ rest) 28 (lower_hex 16 b) ≡ pattern_line name b
+unfolding pattern_line last_digits lower_hex
+pattern-stored name rest b named size end =
+    let d = lower_hex 16 b in
+    let sixteen : length d ≡ 16 = lower_hex-length 16 b in
+    ap (λ i. sets (name ++ rest) i d) (sym named)
+    ∙ stored-behind name rest d (omega arith)
+    ∙ ap (λ l. name ++ (d ++ l)) (ap (λ k. drop k rest) sixteen ∙ end)

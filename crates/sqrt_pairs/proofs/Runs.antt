@@ -1,9 +1,9 @@
 -- The pairs of one piece after another are those of both. Assumes nothing.
-use Rattle.std.proofs.Common.{ℕ, zero, suc, ◌≡◌, ◌+◌, ◌*◌, ◌<◌, ◌≤◌, ◌∙◌, refl, ap, add-zero, List, ◌++◌, length, get_or, arith}
+use Rattle.std.proofs.Common.{ℕ, zero, suc, ◌≡◌, ◌+◌, ◌*◌, ◌/◌, ◌<◌, ◌≤◌, ◌∙◌, refl, ap, add-zero, List, ◌++◌, length, length-append, get_or, arith}
 use Rattle.std.proofs.Math.ListN.{get_or-append}
 use Rattle.std.proofs.lemmas.List.{get_or-append-add}
 use Rattle.words.specs.Word.{word_at}
-use Rattle.sqrt_pairs.specs.Pairs.{wrong_pairs}
+use Rattle.sqrt_pairs.specs.Pairs.{wrong, wrong_pairs}
 
 -- words whose bytes are the same
 same-word : (s t : List ℕ) (i j : ℕ) → ((k : ℕ) → k < 8 → get_or s (i + k) 0 ≡ get_or t (j + k) 0) → word_at s i ≡ word_at t j
@@ -37,3 +37,11 @@ pairs-of-both a b n (suc m) e =
     let first : word_at (a ++ b) ((n + m) * 16) ≡ word_at b (m * 16) = word-behind a b _ _ (omega (arith, e)) in
     let second : word_at (a ++ b) ((n + m) * 16 + 8) ≡ word_at b (m * 16 + 8) = word-behind a b _ _ (omega (arith, e)) in
     ap (wrong_pairs (a ++ b)) more ∙ rw (pairs-of-both a b n m e, first, second) (omega arith)
+
+-- the first pair, and those behind it
+pub first_pair : (all x rest : List ℕ) → all ≡ x ++ rest → length x ≡ 16
+    → (length all / 16 ≡ length rest / 16 + 1) × (wrong_pairs all (length all / 16) ≡ wrong (word_at x 0) (word_at x 8) + wrong_pairs rest (length rest / 16))
+unfolding wrong_pairs
+first_pair all x rest e size =
+    let more : length all / 16 ≡ 1 + length rest / 16 = omega (arith, ap length e, length-append x rest) in
+    (omega arith, rw (more, e) (pairs-of-both x rest 1 (length rest / 16) size ∙ omega arith))

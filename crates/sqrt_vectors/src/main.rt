@@ -2,8 +2,9 @@
 // pattern and the pattern of its root.
 #![tactic(auto)]
 
-ghost use Rattle.std.specs.Prelude.{◌≡◌, ◌+◌, ◌^◌, ◌≤◌, false, true};
-ghost use Rattle.sqrt_vectors.specs.Compared.{Ended, Counted, AllCompared};
+ghost use Rattle.std.specs.Prelude.{[], IfOk, OnOk};
+ghost use Rattle.std.specs.Io.KnownBytes.{Consumes, IsAtEnd};
+ghost use Rattle.sqrt_vectors.specs.Compared.{AllCompared};
 
 use sqrt_pairs::Tally;
 use std::env::FillError;
@@ -12,73 +13,58 @@ use std::io;
 use std::io::Read;
 use std::rt::Env;
 
-// The tally after a piece that was short. That does not say that the file has ended, since a read may have failed: the file is
-// asked for one byte more.
-fn at_end<R: Read>(rt: &(impl Print + Eprint), t: Tally, file: &mut R, path: &str) -> Tally
-    ensures compared_value { result.compared ≡ t.compared }
-    ensures different_value { result.different ≡ t.different }
-    ensures more_value { result.more ≡ false }
-    ensures end { result.sound ≡ true → Ended t (R.remaining file.old) (R.remaining file.new) }
-{
-    let mut byte = [0u8; 1];
-    match file.read(&mut byte) {
-        Err(e) => {
-            let _ = eprintln!(rt; "{path}: {e}");
-            sqrt_pairs::unsound(t)
-        }
-        Ok(0) => {
-            let mut r = t;
-            r.more = false;
-            r
-        }
-        Ok(_) => {
-            let _ = println!(rt; "The file was not read to its end.");
-            sqrt_pairs::unsound(t)
-        }
+// Why a file was not compared to its end.
+#[derive(Debug, Drop)]
+enum CompareError {
+    Read(io::Error),
+    PartialPair,
+    NotAtEnd,
+    TooLong,
+}
+
+impl From<io::Error> for CompareError {
+    ghost use Rattle.sqrt_vectors.specs.declared.CompareError.TheVariants.{Read as read};
+    ghost use Rattle.std.specs.Prelude.{◌≡◌};
+
+    ghost from_gives = { λ e r. r ≡ read e };
+
+    fn from(e: io::Error) -> CompareError {
+        CompareError::Read(e)
     }
 }
 
-// The tally with the next piece of the file.
-fn with_piece<R: Read>(rt: &(impl Print + Eprint), t: Tally, file: &mut R, path: &str) -> Tally
-    requires compared_bound { t.compared ≤ 2 ^ 60 }
-    requires different_le_compared { t.different ≤ t.compared }
-    ensures compared_bound_2 { result.compared ≤ t.compared + 4096 }
-    ensures different_le_compared_2 { result.different ≤ result.compared }
-    ensures piece { t.more ≡ true → result.sound ≡ true → Counted t result 1 (R.remaining file.old) (R.remaining file.new) }
+// After a short piece, of n bytes: whether these are whole pairs, and the file has ended. That the piece was short does not say so,
+// since a read may have failed: the file is asked for one byte more.
+fn check_end<R: Read>(file: &mut R, n: usize) -> Result<(), CompareError>
+    ensures none { OnOk result (Consumes (R.remaining file.old) (R.remaining file.new) []) }
+    ensures end { OnOk result (IsAtEnd (R.remaining file.new)) }
 {
-    let mut buf = [0u8; 65536];
-    let n = filling::fill(file, &mut buf);
-    let r = sqrt_pairs::with_pairs(t, &buf[..n]);
-    if n == 65536 {
-        return r;
-    }
     if n % 16 != 0 {
-        let _ = println!(rt; "The file's length is no multiple of 16.");
-        return sqrt_pairs::unsound(r);
+        return Err(CompareError::PartialPair);
     }
-    at_end(rt, r, file, path)
+    let mut byte = [0u8; 1];
+    match file.read(&mut byte)? {
+        0 => Ok(()),
+        _ => Err(CompareError::NotAtEnd),
+    }
 }
 
 // The tally of the whole file. A proved loop has to end, so it counts its pieces; no file has as many.
-#[tactic(auto, using(crate::proofs::Compared::none_yet, crate::proofs::Compared::one_more))]
-fn compare_file<R: Read>(rt: &(impl Print + Eprint), file: &mut R, path: &str) -> Tally
-    ensures different_le_compared { result.different ≤ result.compared }
-    ensures all { result.more ≡ false → result.sound ≡ true → AllCompared result (R.remaining file.old) }
+#[tactic(auto, using(crate::proofs::Compared::none_yet))]
+fn compare_file<R: Read>(file: &mut R) -> Result<Tally, CompareError>
+    ensures { IfOk result (λ t. AllCompared t (R.remaining file.old)) }
 {
-    let mut t = Tally {
-        compared: 0,
-        different: 0,
-        pattern: 0,
-        root: 0,
-        more: true,
-        sound: true,
-    };
-    let mut pieces = 0u64;
-    while pieces < 0x1_0000_0000 && t.more {
-        t = with_piece(rt, t, file, path);
-        pieces += 1;
+    let mut tally = Tally::new();
+    let mut buf = [0u8; 65536];
+    for _ in 0..0x1_0000_0000u64 {
+        let n = filling::fill(file, &mut buf);
+        tally.add_pairs(&buf[..n]);
+        if n < 65536 {
+            check_end(file, n)?;
+            return Ok(tally);
+        }
     }
-    t
+    Err(CompareError::TooLong)
 }
 
 fn main(rt: HostRuntime) -> io::Result<()> {
@@ -96,25 +82,36 @@ fn main(rt: HostRuntime) -> io::Result<()> {
         Ok(path) => path,
         Err(e) => return eprintln!(rt; "the name of the vectors: {e}"),
     };
-    let t = match File::open(&rt, path) {
-        Ok(mut file) => compare_file(&rt, &mut file, path),
+    let mut file = match File::open(&rt, path) {
+        Ok(file) => file,
         Err(e) => return eprintln!(rt; "{path}: {e}"),
     };
-    if t.more {
-        return println!(rt; "The file is too long.");
-    }
-    if !t.sound {
-        return Ok(());
-    }
-    if t.compared == 0 {
+    let tally = match compare_file(&mut file) {
+        Ok(tally) => tally,
+        Err(CompareError::TooLong) => return println!(rt; "The file is too long."),
+        // The program ends well after the messages below, printed or not. No Display, since they have two streams.
+        Err(CompareError::Read(e)) => {
+            let _ = eprintln!(rt; "{path}: {e}");
+            return Ok(());
+        }
+        Err(CompareError::PartialPair) => {
+            let _ = println!(rt; "The file's length is no multiple of 16.");
+            return Ok(());
+        }
+        Err(CompareError::NotAtEnd) => {
+            let _ = println!(rt; "The file was not read to its end.");
+            return Ok(());
+        }
+    };
+    if tally.compared == 0 {
         return println!(rt; "The file is empty.");
     }
-    println!(rt; "{} patterns compared", t.compared)?;
-    println!(rt; "{} differ", t.different)?;
-    if t.different > 0 {
-        let b = t.pattern;
+    println!(rt; "{} patterns compared", tally.compared)?;
+    println!(rt; "{} differ", tally.different)?;
+    if let Some(pair) = tally.first {
+        let b = pair.pattern;
         let first = sqrt_pairs::pattern_line(b"first pattern that differs: ", b);
-        let stored = sqrt_pairs::pattern_line(b"its stored root:            ", t.root);
+        let stored = sqrt_pairs::pattern_line(b"its stored root:            ", pair.root);
         let by_bits = sqrt_pairs::pattern_line(
             b"its root by sqrt_bits:      ",
             float::sqrt_bits(b),

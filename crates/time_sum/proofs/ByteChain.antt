@@ -10,11 +10,11 @@ use lib.ListN.{length}
 use lib.Ieee.{Float, binary64}
 use lib.Ieee.Bits.{of_bits-fits}
 use lib.Ieee.Fits.{nan-fits}
+use Rattle.std.specs.Prelude.{Ok}
 use Rattle.float.specs.Exact.{exact}
 use Rattle.words.specs.Word.{value_at, word_at}
 use Rattle.sgal3.specs.declared.Element.{Element}
 use Rattle.sgal3_composition.specs.Calls as Calls
-use Rattle.sgal3_composition.specs.declared.Answer.TheVariants.{Done}
 use Rattle.element_bytes.specs.Bytes.{values_at}
 use Rattle.byte_chain.specs.Blocks.{chain_blocks, chain}
 use Rattle.time_sum.specs.RunningSum.{blocks, exact_sum, magnitude_sum}
@@ -30,7 +30,7 @@ values (suc n) s at = go (values n s (at + 8))
     go f zero = of_bits-fits binary64 (word_at s at)
     go f (suc i) = f i
 
-whole : (most : ℕ) (s : List ℕ) (c : Element) → chain most s ≡ Done c → chain_blocks (length s / 88) s ≡ Done c
+whole : (most : ℕ) (s : List ℕ) (c : Element) → chain most s ≡ Ok c → chain_blocks (length s / 88) s ≡ Ok c
 unfolding chain
 whole most s c = passed (ltb most (length s)) (eqb (length s % 88) 0) _ _ _
 
@@ -38,13 +38,13 @@ whole most s c = passed (ltb most (length s)) (eqb (length s % 88) 0) _ _ _
 abbrev pub value_blocks : List ℕ → List (List Float)
 value_blocks s = blocks (length s / 88) (values_at (length s / 88 * 11) s 0)
 
-pub byte-chain-time-sum-sharp : (most : ℕ) (s : List ℕ) (c : Element) → chain most s ≡ Done c
+pub byte-chain-time-sum-sharp : (most : ℕ) (s : List ℕ) (c : Element) → chain most s ≡ Ok c
     → 2 ^ 53 * nat_abs (exact c.time -ℤ exact_sum (value_blocks s)) ≤ (length s / 88 - 1) * magnitude_sum (value_blocks s)
 unfolding chain_blocks
 byte-chain-time-sum-sharp most s c h =
     let n = length s / 88 in
     chained n (values_at (n * 11) s 0) c (whole most s c h) (values-blocks n (values_at (n * 11) s 0) (values (n * 11) s 0))
 
-pub byte-chain-time-sum : (most : ℕ) (s : List ℕ) (c : Element) → chain most s ≡ Done c
+pub byte-chain-time-sum : (most : ℕ) (s : List ℕ) (c : Element) → chain most s ≡ Ok c
     → 2 ^ 53 * nat_abs (exact c.time -ℤ exact_sum (value_blocks s)) ≤ length s / 88 * magnitude_sum (value_blocks s)
 byte-chain-time-sum most s c h = le_trans (byte-chain-time-sum-sharp most s c h) (mul-le-mul_right (magnitude_sum (value_blocks s)) (one_less (length s / 88)))

@@ -14,7 +14,8 @@ use lib.Ieee.Fits.{add-fits}
 use Rattle.float.specs.Exact.{exact, count}
 use Rattle.rounding.proofs.Laws.{add-operands}
 use Rattle.law.specs.Galilean as Law
-use Rattle.checks.specs.Checks.{tolerance}
+use Rattle.std.specs.Prelude.{Ok, Err}
+use Rattle.checks.specs.Checks.{Check, and_then, both, tolerance}
 use Rattle.checks.specs.Refusals as Refusals
 use Rattle.checks.specs.declared.Refusal.{Refusal}
 use Rattle.checks.specs.declared.Refusal.TheVariants.{Length}
@@ -26,11 +27,10 @@ use Rattle.element_bytes.specs.Bytes.{values_at, element_bytes}
 use Rattle.element_bytes.proofs.RoundTrips.{time-back}
 use Rattle.element_bytes.proofs.Stored.{element-length}
 use Rattle.sgal3_composition.specs.Calls as Calls
-use Rattle.sgal3_composition.specs.declared.Answer.{Answer}
-use Rattle.sgal3_composition.specs.declared.Answer.TheVariants.{Done, Refused}
+use Rattle.sgal3_composition.specs.Calls.{Answer}
 use Rattle.byte_chain.specs.Blocks.{check_block}
 use Rattle.handset.specs.Entries as Entries
-use Rattle.handset.specs.Entries.{number, written, into, Answered}
+use Rattle.handset.specs.Entries.{number, written, check_output, into, Answered}
 use Rattle.handset.proofs.Outputs.{done-number, done-written, refused-number, refused-written}
 use Rattle.time_sum.specs.RunningSum.{time_of}
 use Rattle.time_sum.specs.EntryRuns.{Call, composed as Call·composed, composed_in_place, EntryRun, start, time_at, entered, called, after, Within}
@@ -39,26 +39,24 @@ use Rattle.time_sum.proofs.Times.{never, composed, checked}
 use Rattle.time_sum.proofs.TimeSum.{one_less}
 
 -- ---- an entry that answers: its output has the right length, and its blocks passed
-answered : (out : List ℕ) (a : Answer) (c : Element) → into out a ≡ Done c → a ≡ Done c
-unfolding into Calls.first_refusal
-answered out a c = go (eqb (length out) 88)
+answered : (out : List ℕ) (a : Answer) (c : Element) → into out a ≡ Ok c → a ≡ Ok c
+unfolding into both
+answered out a c = go a (check_output out)
   where
-    first : (a : Answer) (r : Refusal) → Calls.first_refusal a (Refused r) ≡ Done c → a ≡ Done c
-    first (Done b) r h = never h
-    first (Refused q) r h = never h
+    go : (a : Answer) (o : Check) → and_then (both a o) (λ p. Ok p.0) ≡ Ok c → a ≡ Ok c
+    go (Ok b) (Ok passed) h = h
+    go (Ok b) (Err r) h = never h
+    go (Err q) (Ok passed) h = never h
+    go (Err q) (Err r) h = never h
 
-    go : (b : Bool) → cond b a (Calls.first_refusal a (Refused (Length 88 (length out)))) ≡ Done c → a ≡ Done c
-    go true h = h
-    go false h = first a _ h
-
-block-time : (s : List ℕ) (e : Element) → check_block s ≡ Done e → e.time ≡ time_at s
+block-time : (s : List ℕ) (e : Element) → check_block s ≡ Ok e → e.time ≡ time_at s
 unfolding check_block
 block-time s e = go (eqb (length s) 88)
   where
     last : time_of (values_at 11 s 0) ≡ time_at s
     last = unfold time_of time_at values_at in refl
 
-    go : (b : Bool) → cond b (Calls.check_element (values_at 11 s 0) tolerance) (Refused (Length 88 (length s))) ≡ Done e → e.time ≡ time_at s
+    go : (b : Bool) → cond b (Calls.check_element (values_at 11 s 0) tolerance) (Err (Length 88 (length s))) ≡ Ok e → e.time ≡ time_at s
     go true h = checked (values_at 11 s 0) e h ∙ last
     go false h = never h
 
@@ -72,7 +70,7 @@ unfolding time_at value_at
 time-fits s = of_bits-fits binary64 (word_at s 80)
 
 -- ---- one call
-accepts : {n : ℕ} {S : ℤ} {M : ℕ} (held step out : List ℕ) (c : Element) → Entries.compose held step out ≡ Done c → Summed (time_at held) n S M
+accepts : {n : ℕ} {S : ℤ} {M : ℕ} (held step out : List ℕ) (c : Element) → Entries.compose held step out ≡ Ok c → Summed (time_at held) n S M
     → Summed (time_at (element_bytes c)) (suc n) (S +ℤ exact (time_at step)) (M + count (time_at step))
 unfolding Entries.compose
 accepts held step out c h i =
@@ -94,10 +92,10 @@ refusal-enters b step taken left r e i = rw (above_zero r) as_before
     as_before : Summed (time_at left) b.n b.S b.M
     as_before = rw e i
 
-one-call : (b : EntryRun) (step out left : List ℕ) (a : Answer) → Entries.compose b.held step out ≡ a → ((r : Refusal) → a ≡ Refused r → left ≡ b.held)
+one-call : (b : EntryRun) (step out left : List ℕ) (a : Answer) → Entries.compose b.held step out ≡ a → ((r : Refusal) → a ≡ Err r → left ≡ b.held)
     → Holds b → Holds (entered b step (number a) (written a out) left)
-one-call b step out left (Done c) e k i = rw (done-number c, done-written c out) (unfold entered in accepts b.held step out c e i)
-one-call b step out left (Refused r) e k i = rw (refused-number r) (refusal-enters b step (written (Refused r) out) left r (k r refl) i)
+one-call b step out left (Ok c) e k i = rw (done-number c, done-written c out) (unfold entered in accepts b.held step out c e i)
+one-call b step out left (Err r) e k i = rw (refused-number r) (refusal-enters b step (written (Err r) out) left r (k r refl) i)
 
 calls : (b : EntryRun) (l : List Call) → Holds b → Holds (after b l)
 unfolding after called
@@ -110,7 +108,7 @@ calls b (composed_in_place step ∷ l) i =
     in_place : Entries.compose b.held step b.held ≡ Entries.compose_in_place b.held step
     in_place = unfold Entries.compose_in_place in refl
 
-    kept : (a : Answer) (r : Refusal) → a ≡ Refused r → written a b.held ≡ b.held
+    kept : (a : Answer) (r : Refusal) → a ≡ Err r → written a b.held ≡ b.held
     kept a r e = rw e (refused-written r b.held)
 
 begins : Holds start
@@ -138,16 +136,16 @@ in-place-entered b step left r a = rw (a.returned, a.output)
 
 -- ---- what is held has an element's length, after every call
 written-length : (a : Answer) (out : List ℕ) → length out ≡ 88 → length (written a out) ≡ 88
-written-length (Done e) out h = rw (done-written e out) (element-length e)
-written-length (Refused r) out h = rw (refused-written r out) h
+written-length (Ok e) out h = rw (done-written e out) (element-length e)
+written-length (Err r) out h = rw (refused-written r out) h
 
 refusal-length : (b : EntryRun) (step taken left : List ℕ) (r : Refusal) → length left ≡ 88 → length (entered b step (Refusals.number r) taken left).held ≡ 88
 unfolding entered
 refusal-length b step taken left r h = rw (above_zero r) h
 
 call_length : (b : EntryRun) (step out left : List ℕ) (a : Answer) → length left ≡ 88 → length (entered b step (number a) (written a out) left).held ≡ 88
-call_length b step out left (Done e) h = rw (done-number e, done-written e out) (unfold entered in element-length e)
-call_length b step out left (Refused r) h = rw (refused-number r) (refusal-length b step (written (Refused r) out) left r h)
+call_length b step out left (Ok e) h = rw (done-number e, done-written e out) (unfold entered in element-length e)
+call_length b step out left (Err r) h = rw (refused-number r) (refusal-length b step (written (Err r) out) left r h)
 
 calls-length : (b : EntryRun) (l : List Call) → length b.held ≡ 88 → length (after b l).held ≡ 88
 unfolding after called

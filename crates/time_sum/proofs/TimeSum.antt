@@ -10,26 +10,26 @@ use lib.IntN.{ℤ, pos, nat_abs, ◌+ℤ◌, ◌-ℤ◌, +ℤ_assoc, +ℤ_idl, +
 use lib.ListN.{length, take, drop}
 use lib.Ieee.{Float, binary64, add, fits}
 use lib.Ieee.Fits.{nan-fits}
+use Rattle.std.specs.Prelude.{Ok, Err}
 use Rattle.checks.specs.Checks.{tolerance}
 use Rattle.float.specs.Exact.{exact, count}
 use Rattle.rounding.proofs.Laws.{add-operands}
 use Rattle.law.specs.Galilean as Law
 use Rattle.sgal3.specs.Elements as Elements
 use Rattle.sgal3_composition.specs.Calls as Calls
+use Rattle.sgal3_composition.specs.Calls.{Answer}
 use Rattle.sgal3.specs.declared.Element.{Element}
-use Rattle.sgal3_composition.specs.declared.Answer.{Answer}
-use Rattle.sgal3_composition.specs.declared.Answer.TheVariants.{Done, Refused}
 use Rattle.time_sum.specs.RunningSum.{RunningSum, start, time_of, entered, after, Binary64, Within, blocks, exact_sum, magnitude_sum}
 use Rattle.time_sum.proofs.Bound.{Summed, starts, adds}
 use Rattle.time_sum.proofs.Times.{never, passed, composed, checked, own-time}
 
 -- ---- one composed step: the held element's time is t, the step's block is s
-takes : {n : ℕ} {S : ℤ} {M : ℕ} (held : Answer) (s : List Float) (a c : Element) → held ≡ Done a
-    → Calls.compose_answers held (Calls.check_element s tolerance) ≡ Done c → T (fits binary64 (time_of s)) → Summed a.time n S M
+takes : {n : ℕ} {S : ℤ} {M : ℕ} (held : Answer) (s : List Float) (a c : Element) → held ≡ Ok a
+    → Calls.compose_answers held (Calls.check_element s tolerance) ≡ Ok c → T (fits binary64 (time_of s)) → Summed a.time n S M
     → Summed c.time (suc n) (S +ℤ exact (time_of s)) (M + count (time_of s))
 takes {n} {S} {M} held s a c e h f i =
     let k = composed held (Calls.check_element s tolerance) c h in
-    let same-a : k.a ≡ a = let p : Done k.a ≡ Done a = sym k.left_is ∙ e in cc in
+    let same-a : k.a ≡ a = let p : ◌≡◌ {A = Answer} (Ok k.a) (Ok a) = sym k.left_is ∙ e in cc in
     let is : c.time ≡ add binary64 a.time (time_of s) =
     k.time ∙ ap (λ (x : Element). add binary64 x.time k.b.time) same-a ∙ ap (add binary64 a.time) (checked s k.b k.right_is) in
     let finite-sum = rw is at k.finite in
@@ -39,11 +39,11 @@ takes {n} {S} {M} held s a c e h f i =
 one-call : (b : RunningSum) (s : List Float) (o : Answer) → Calls.compose (Elements.coeffs b.held) s ≡ o → T (fits binary64 (time_of s))
     → Summed b.held.time b.n b.S b.M → Summed (entered b s o).held.time (entered b s o).n (entered b s o).S (entered b s o).M
 unfolding entered Calls.compose
-one-call b s (Done c) e f i =
+one-call b s (Ok c) e f i =
     let k = composed (Calls.check_element (Elements.coeffs b.held) tolerance) (Calls.check_element s tolerance) c e in
     let j : Summed k.a.time b.n b.S b.M = rw (checked (Elements.coeffs b.held) k.a k.left_is ∙ own-time b.held) i in
     takes (Calls.check_element (Elements.coeffs b.held) tolerance) s k.a c k.left_is e f j
-one-call b s (Refused r) e f i = i
+one-call b s (Err r) e f i = i
 
 -- what holds after the whole list
 abbrev Holds : RunningSum → Type 0
@@ -72,21 +72,21 @@ pub time-sum : (steps : List (List Float)) → Binary64 steps → Within (after 
 time-sum steps f = le_trans (time-sum-sharp steps f) (mul-le-mul_right (after start steps).M (one_less (after start steps).n))
 
 -- ---- the chain: a refusal stays one
-refused : (n : ℕ) (s : List Float) (c : Element) (held : Answer) → ((a : Element) → held ≡ Done a → ⊥) → Calls.chain_from held n s ≡ Done c → ⊥
+refused : (n : ℕ) (s : List Float) (c : Element) (held : Answer) → ((a : Element) → held ≡ Ok a → ⊥) → Calls.chain_from held n s ≡ Ok c → ⊥
 unfolding Calls.chain_from
 refused zero s c held r h = r c h
 refused (suc n) s c held r h =
     refused n (drop 11 s) c (Calls.compose_answers held (Calls.check_element (take 11 s) tolerance))
     (λ a e. let k = composed held (Calls.check_element (take 11 s) tolerance) a e in r k.a k.left_is) h
 
-chain-from : {m : ℕ} {S : ℤ} {M : ℕ} (n : ℕ) (s : List Float) (held : Answer) (a c : Element) → held ≡ Done a → Calls.chain_from held n s ≡ Done c
+chain-from : {m : ℕ} {S : ℤ} {M : ℕ} (n : ℕ) (s : List Float) (held : Answer) (a c : Element) → held ≡ Ok a → Calls.chain_from held n s ≡ Ok c
     → Binary64 (blocks n s) → Summed a.time m S M → Summed c.time (m + n) (S +ℤ exact_sum (blocks n s)) (M + magnitude_sum (blocks n s))
 unfolding Calls.chain_from blocks exact_sum magnitude_sum
 chain-from {m} {S} {M} zero s held a c e h f i =
-    let q : a ≡ c = let p : Done a ≡ Done c = sym e ∙ h in cc in
+    let q : a ≡ c = let p : ◌≡◌ {A = Answer} (Ok a) (Ok c) = sym e ∙ h in cc in
     rw (add-zero m, +ℤ_idr S, add-zero M, ← q) i
 chain-from {m} {S} {M} (suc n) s held a c e h f i =
-    go (Calls.compose_answers held (Calls.check_element (take 11 s) tolerance)) refl h (λ b k j. chain-from {m = suc m} {S = S +ℤ exact x} {M = M + count x} n (drop 11 s) (Done b) b c refl k f.1 j)
+    go (Calls.compose_answers held (Calls.check_element (take 11 s) tolerance)) refl h (λ b k j. chain-from {m = suc m} {S = S +ℤ exact x} {M = M + count x} n (drop 11 s) (Ok b) b c refl k f.1 j)
   where
     x : Float
     x = time_of (take 11 s)
@@ -94,22 +94,22 @@ chain-from {m} {S} {M} (suc n) s held a c e h f i =
     rest : List (List Float)
     rest = blocks n (drop 11 s)
 
-    go : (o : Answer) → Calls.compose_answers held (Calls.check_element (take 11 s) tolerance) ≡ o → Calls.chain_from o n (drop 11 s) ≡ Done c
-        → ((b : Element) → Calls.chain_from (Done b) n (drop 11 s) ≡ Done c → Summed b.time (suc m) (S +ℤ exact x) (M + count x)
+    go : (o : Answer) → Calls.compose_answers held (Calls.check_element (take 11 s) tolerance) ≡ o → Calls.chain_from o n (drop 11 s) ≡ Ok c
+        → ((b : Element) → Calls.chain_from (Ok b) n (drop 11 s) ≡ Ok c → Summed b.time (suc m) (S +ℤ exact x) (M + count x)
         → Summed c.time (suc m + n) (S +ℤ exact x +ℤ exact_sum rest) (M + count x + magnitude_sum rest))
         → Summed c.time (m + suc n) (S +ℤ (exact x +ℤ exact_sum rest)) (M + (count x + magnitude_sum rest))
-    go (Done b) p k more =
+    go (Ok b) p k more =
         rw (add-suc m n, ← suc-add m n, ← +ℤ_assoc S (exact x) (exact_sum rest), ← add_assoc M (count x) (magnitude_sum rest))
         (more b k (takes held (take 11 s) a b e p (unfold time_of in f.0 10) i))
-    go (Refused r) p k more = absurd (refused n (drop 11 s) c (Refused r) (λ a e. never e) k)
+    go (Err r) p k more = absurd (refused n (drop 11 s) c (Err r) (λ a e. never e) k)
 
-pub chained : (n : ℕ) (s : List Float) (c : Element) → Calls.chain_blocks n s ≡ Done c → Binary64 (blocks n s)
+pub chained : (n : ℕ) (s : List Float) (c : Element) → Calls.chain_blocks n s ≡ Ok c → Binary64 (blocks n s)
     → 2 ^ 53 * nat_abs (exact c.time -ℤ exact_sum (blocks n s)) ≤ (n - 1) * magnitude_sum (blocks n s)
 unfolding Calls.chain_blocks
 chained n s c h f =
     let i : Summed (Elements.identity).time 0 (pos 0) 0 = unfold Elements.identity Law.identity in starts in
     rw (zero-add n, +ℤ_idl (exact_sum (blocks n s)), zero-add (magnitude_sum (blocks n s))) at
-    (chain-from n s (Done Elements.identity) Elements.identity c refl h f i).bound
+    (chain-from n s (Ok Elements.identity) Elements.identity c refl h f i).bound
 
 -- ---- a chain's values are binary64, so those of its blocks are
 values-take : (n : ℕ) (s : List Float) → Calls.Binary64 s → Calls.Binary64 (take n s)
@@ -132,15 +132,15 @@ values-blocks zero s f = tt
 values-blocks (suc n) s f = (values-take 11 s f, values-blocks n (drop 11 s) (values-drop 11 s f))
 
 -- ---- a chain that is not refused has whole blocks
-whole : (s : List Float) (c : Element) → Calls.chain s ≡ Done c → Calls.chain_blocks (length s / 11) s ≡ Done c
+whole : (s : List Float) (c : Element) → Calls.chain s ≡ Ok c → Calls.chain_blocks (length s / 11) s ≡ Ok c
 unfolding Calls.chain
 whole s c = passed (ltb 45056 (length s)) (eqb (length s % 11) 0) _ _ _
 
 -- the same promise of every chain that is not refused: n is the number of its blocks
-pub chain-time-sum-sharp : (s : List Float) → Calls.Binary64 s → (c : Element) → Calls.chain s ≡ Done c
+pub chain-time-sum-sharp : (s : List Float) → Calls.Binary64 s → (c : Element) → Calls.chain s ≡ Ok c
     → 2 ^ 53 * nat_abs (exact c.time -ℤ exact_sum (blocks (length s / 11) s)) ≤ (length s / 11 - 1) * magnitude_sum (blocks (length s / 11) s)
 chain-time-sum-sharp s f c h = chained (length s / 11) s c (whole s c h) (values-blocks (length s / 11) s f)
 
-pub chain-time-sum : (s : List Float) → Calls.Binary64 s → (c : Element) → Calls.chain s ≡ Done c
+pub chain-time-sum : (s : List Float) → Calls.Binary64 s → (c : Element) → Calls.chain s ≡ Ok c
     → 2 ^ 53 * nat_abs (exact c.time -ℤ exact_sum (blocks (length s / 11) s)) ≤ length s / 11 * magnitude_sum (blocks (length s / 11) s)
 chain-time-sum s f c h = le_trans (chain-time-sum-sharp s f c h) (mul-le-mul_right (magnitude_sum (blocks (length s / 11) s)) (one_less (length s / 11)))

@@ -7,33 +7,31 @@ use native.Mathlib.Omega.{arith}
 use lib.Dec.{T, lit<}
 use lib.Ieee.{Float, binary64, add}
 use lib.Ieee.Scale.{finite}
-use Rattle.checks.specs.Checks.{tolerance, all_finite, check_param_block}
-use Rattle.checks.specs.declared.Check.{Check}
-use Rattle.checks.specs.declared.Check.TheVariants.{Passed, Refused as Check-as-Refused}
+use Rattle.std.specs.Prelude.{Ok, Err}
+use Rattle.checks.specs.Checks.{Check, and_then, both, tolerance, all_finite, check_param_block}
 use Rattle.checks.specs.declared.Refusal.{Refusal}
 use Rattle.checks.specs.declared.Refusal.TheVariants.{Overflow}
 use Rattle.checks.proofs.Finite.{finite-at}
 use Rattle.law.specs.Galilean as Law
 use Rattle.sgal3.specs.Elements as Elements
 use Rattle.sgal3_composition.specs.Calls as Calls
+use Rattle.sgal3_composition.specs.Calls.{Answer}
 use Rattle.sgal3.specs.declared.Element.{Element}
-use Rattle.sgal3_composition.specs.declared.Answer.{Answer}
-use Rattle.sgal3_composition.specs.declared.Answer.TheVariants.{Done, Refused}
 use Rattle.time_sum.specs.RunningSum.{time_of}
 
-pub never : {A : Type 0} {r : _} {e : Element} → Refused r ≡ Done e → A
+pub never : {A : Type 0} {r : Refusal} {e : Element} → ◌≡◌ {A = Answer} (Err r) (Ok e) → A
 never {A} {r} {e} p = let z : ◌≡◌ {A = ℕ} 0 1 = cc in absurd (apart z)
   where
     apart : ◌≡◌ {A = ℕ} 0 1 → ⊥
     apart z = omega arith
 
 -- an answer behind two tests that refuse
-pub passed : (p q : Bool) (r s : Refusal) (answer : Answer) {e : Element} → cond p (Refused r) (cond q answer (Refused s)) ≡ Done e → answer ≡ Done e
+pub passed : (p q : Bool) (r s : Refusal) (answer : Answer) {e : Element} → cond p (Err r) (cond q answer (Err s)) ≡ Ok e → answer ≡ Ok e
 passed true q r s answer h = never h
 passed false true r s answer h = h
 passed false false r s answer h = never h
 
-same : {a b : Element} → Done a ≡ Done b → a ≡ b
+same : {a b : Element} → ◌≡◌ {A = Answer} (Ok a) (Ok b) → a ≡ b
 same p = cc
 
 -- ---- an answer that is not refused
@@ -41,11 +39,11 @@ record Finished (e c : Element) : Type 0 where
   is : e ≡ c
   finite : all_finite (Elements.coeffs e) ≡ true
 
-finished : (e c : Element) → Calls.element_answer e ≡ Done c → Finished e c
+finished : (e c : Element) → Calls.element_answer e ≡ Ok c → Finished e c
 unfolding Calls.element_answer
 finished e c = go (all_finite (Elements.coeffs e)) refl
   where
-    go : (b : Bool) → all_finite (Elements.coeffs e) ≡ b → cond b (Done e) (Refused Overflow) ≡ Done c → Finished e c
+    go : (b : Bool) → all_finite (Elements.coeffs e) ≡ b → cond b (Ok e) (Err Overflow) ≡ Ok c → Finished e c
     go true p h = record { is = same h; finite = p }
     go false p h = never h
 
@@ -53,14 +51,14 @@ finished e c = go (all_finite (Elements.coeffs e)) refl
 pub record Composed (left right : Answer) (c : Element) : Type 0 where
   pub a : Element
   pub b : Element
-  pub left_is : left ≡ Done a
-  pub right_is : right ≡ Done b
+  pub left_is : left ≡ Ok a
+  pub right_is : right ≡ Ok b
   pub time : c.time ≡ add binary64 a.time b.time
   pub finite : T (finite c.time)
 
-pub composed : (left right : Answer) (c : Element) → Calls.compose_answers left right ≡ Done c → Composed left right c
-unfolding Calls.compose_answers Calls.first_refusal
-composed (Done a) (Done b) c h =
+pub composed : (left right : Answer) (c : Element) → Calls.compose_answers left right ≡ Ok c → Composed left right c
+unfolding Calls.compose_answers both
+composed (Ok a) (Ok b) c h =
     let f = finished (Elements.compose a b) c h in
     record {
       a = a;
@@ -76,18 +74,18 @@ composed (Done a) (Done b) c h =
 
     last : (e : Element) → all_finite (Elements.coeffs e) ≡ true → T (finite e.time)
     last e h = unfold Elements.coeffs in subst T (sym (finite-at (Elements.coeffs e) h 10 (lit< tt))) tt
-composed (Done a) (Refused s) c h = never h
-composed (Refused r) (Done b) c h = never h
-composed (Refused r) (Refused s) c h = never h
+composed (Ok a) (Err s) c h = never h
+composed (Err r) (Ok b) c h = never h
+composed (Err r) (Err s) c h = never h
 
 -- ---- the element of a block that passed
-pub checked : (s : List Float) (e : Element) → Calls.check_element s tolerance ≡ Done e → e.time ≡ time_of s
+pub checked : (s : List Float) (e : Element) → Calls.check_element s tolerance ≡ Ok e → e.time ≡ time_of s
 unfolding Calls.check_element
 checked s e = go (check_param_block s 11 3 tolerance)
   where
-    go : (c : Check) → Calls.of_check (Elements.element_of s) c ≡ Done e → e.time ≡ time_of s
-    go Passed h = ap (λ (x : Element). x.time) (sym (same h)) ∙ (unfold Elements.element_of time_of in refl)
-    go (Check-as-Refused r) h = never h
+    go : (c : Check) → and_then c (λ _. Ok (Elements.element_of s)) ≡ Ok e → e.time ≡ time_of s
+    go (Ok passed) h = ap (λ (x : Element). x.time) (sym (same h)) ∙ (unfold Elements.element_of time_of in refl)
+    go (Err r) h = never h
 
 pub own-time : (e : Element) → time_of (Elements.coeffs e) ≡ e.time
 unfolding time_of Elements.coeffs

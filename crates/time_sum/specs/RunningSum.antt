@@ -1,12 +1,11 @@
 -- A run of compose calls beside the exact sum of its steps' times. Definitions only.
-use Rattle.std.specs.Prelude.{ℕ, zero, suc, ◌+◌, ◌*◌, ◌^◌, ◌≤◌, List, [], ◌∷◌, ℤ, pos, nat_abs, ◌+ℤ◌, ◌-ℤ◌, get_or, take, drop, Float}
+use Rattle.std.specs.Prelude.{ℕ, zero, suc, ◌+◌, ◌*◌, ◌^◌, ◌≤◌, List, [], ◌∷◌, ℤ, pos, nat_abs, ◌+ℤ◌, ◌-ℤ◌, get_or, take, drop, Ok, Err, Float}
 use Rattle.std.specs.Float.{nan}
 use Rattle.float.specs.Exact.{exact, count}
 use Rattle.sgal3.specs.Elements.{identity, coeffs}
 use Rattle.sgal3_composition.specs.Calls as Calls
+use Rattle.sgal3_composition.specs.Calls.{Answer}
 use Rattle.sgal3.specs.declared.Element.{Element}
-use Rattle.sgal3_composition.specs.declared.Answer.{Answer}
-use Rattle.sgal3_composition.specs.declared.Answer.TheVariants.{Done, Refused}
 
 -- The paper's book of demand 3: the element held, and of the accepted steps the number n, the exact sum S of their times and the sum M of the times'
 -- magnitudes, both in counts of 2 ^ -1074.
@@ -25,8 +24,8 @@ time_of block = get_or block 10 nan
 
 -- an accepted call's answer becomes the element held, and the step's time is counted; a refused call changes nothing
 unfoldable pub entered : RunningSum → List Float → Answer → RunningSum
-entered b step (Done e) = record { held = e; n = suc b.n; S = b.S +ℤ exact (time_of step); M = b.M + count (time_of step) }
-entered b step (Refused r) = b
+entered b step (Ok e) = record { held = e; n = suc b.n; S = b.S +ℤ exact (time_of step); M = b.M + count (time_of step) }
+entered b step (Err r) = b
 
 -- one call after another: each composes the element held with its step, which is any block at all
 unfoldable pub after : RunningSum → List (List Float) → RunningSum

@@ -5,6 +5,8 @@ ghost use Rattle.std.specs.Prelude.{◌≡◌, true, ◌*◌, ◌^◌, ◌<◌, 
 ghost use Rattle.whole_roots.specs.Roots.{WholeRoot, Between};
 ghost use Rattle.whole_roots.specs.Steps.{Ready, Extended};
 
+// The bounds on a and q stand in the contracts and not in a type: every line computes with the bare numbers.
+
 // The whole number nearest to the root of a * 2^52: the guess q or its neighbour if that is confirmed, and else by digits.
 pub fn nearest_root(a: u64, q: u64) -> u64
     requires bound { 2 ^ 52 ≤ a }
@@ -108,10 +110,8 @@ fn whole_root(a: u64) -> u64
         rest: 0,
         digits: a,
     };
-    let mut i = 0u64;
-    while i < 54 {
+    for _ in 0..54u64 {
         s = next_digit(s);
-        i += 1;
     }
     s.root
 }

@@ -1,30 +1,20 @@
--- Eight stores as one, and the round trips: word to bytes to word (`word_back`), bytes to word to bytes (`bytes_back`), number to bytes to number
+-- The round trips: word to bytes to word (`word_back`), bytes to word to bytes (`bytes_back`), number to bytes to number
 -- (`value-back`), and word to number to word off the NaNs (`pattern-back`). Assumes nothing.
-use Prim.Native.Nat.{ℕ, suc, ◌+◌, ◌*◌, ◌/◌, ◌%◌, ◌<◌}
-use mathlib.Core.Path.{◌≡◌, ap, ◌∙◌}
+use Prim.Native.Nat.{ℕ, ◌+◌, ◌*◌, ◌/◌, ◌%◌, ◌<◌, ◌≤◌}
+use mathlib.Core.Path.{◌≡◌, refl, ap, sym, ◌∙◌}
 use mathlib.Core.Bool.{not}
-use mathlib.Core.List.{List, [], ◌∷◌}
+use mathlib.Core.List.{List, [], ◌∷◌, ◌++◌}
 use native.Mathlib.Nat.{zero-add, div-div-eq-div-mul, div-eq_of_lt, add-mul-div_left}
 use native.Mathlib.Omega.{arith}
 use lib.Dec.{T, lit<}
-use lib.ListN.{set}
-use lib.Seq.{sets}
+use lib.ListN.{length, take, drop}
+use borrow.Rule.Slice.PartMut.{put_mid}
+use Rattle.std.specs.Int.{w64, to_le_bytes}
+use Rattle.std.proofs.lemmas.List.{append_assoc}
+use lib.Seq.{sets, sets-eq, drop-drop}
 use lib.Ieee.{Float, binary64, fits, is_nan, of_bits, to_bits}
 use lib.Ieee.Bits.{to_bits-lt, of_bits-to_bits, to_bits-of_bits}
 use Rattle.words.specs.Word.{joined, word_at, value_at, bytes_of}
-
-pub sets8 : (l : List ℕ) (i a b c d e f g h : ℕ)
-    → set (set (set (set (set (set (set (set l i a) (i + 1) b) (i + 2) c) (i + 3) d) (i + 4) e) (i + 5) f) (i + 6) g) (i + 7) h
-    ≡ sets l i (a ∷ b ∷ c ∷ d ∷ e ∷ f ∷ g ∷ h ∷ [])
-sets8 l i a b c d e f g h =
-    let e1 : i + 1 ≡ suc i = omega arith in
-    let e2 : i + 2 ≡ suc (suc i) = omega arith in
-    let e3 : i + 3 ≡ suc (suc (suc i)) = omega arith in
-    let e4 : i + 4 ≡ suc (suc (suc (suc i))) = omega arith in
-    let e5 : i + 5 ≡ suc (suc (suc (suc (suc i)))) = omega arith in
-    let e6 : i + 6 ≡ suc (suc (suc (suc (suc (suc i))))) = omega arith in
-    let e7 : i + 7 ≡ suc (suc (suc (suc (suc (suc (suc i)))))) = omega arith in
-    rw (e1, e2, e3, e4, e5, e6, e7)
 
 -- a number by its lowest byte and the rest, and eight of them in a row
 byte-off : (n k : ℕ) → 0 < k → n / k ≡ n / k % 256 + 256 * (n / (k * 256))
@@ -91,3 +81,13 @@ value-back x h = ap (of_bits binary64) (word_back (to_bits binary64 x) (to_bits-
 
 pub pattern-back : (n : ℕ) → n < 0x1_0000_0000_0000_0000 → T (not (is_nan (of_bits binary64 n))) → to_bits binary64 (of_bits binary64 n) ≡ n
 pattern-back n h t = to_bits-of_bits binary64 n h t
+
+-- a word's bytes put at a place, as a run of stores
+pub stored : (out : List ℕ) (at n : ℕ) → at + 8 ≤ length out → put_mid at 8 out (to_le_bytes w64 n) ≡ sets out at (bytes_of n)
+unfolding bytes_of
+stored out at n h =
+    let size : length (to_le_bytes w64 n) ≡ 8 = refl in
+    let e : at + 8 ≡ at + length (to_le_bytes w64 n) = omega (arith, size) in
+    ap (λ (l : List ℕ). take at out ++ (to_le_bytes w64 n ++ l)) (drop-drop 8 at out ∙ ap (λ (k : ℕ). drop k out) e)
+    ∙ sym (append_assoc (take at out) (to_le_bytes w64 n) (drop (at + length (to_le_bytes w64 n)) out))
+    ∙ sym (sets-eq (to_le_bytes w64 n) out at h)

@@ -8,26 +8,14 @@ ghost use Rattle.std.specs.Float.Ieee.{of_bits, to_bits};
 ghost use Rattle.std.specs.Float.Ieee.Scale.{finite};
 ghost use Rattle.words.specs.Word.{joined, word_at, value_at, bytes_of};
 
-// The number of eight bytes, the lowest first.
-fn join(a: u8, b: u8, c: u8, d: u8, e: u8, f: u8, g: u8, h: u8) -> u64
-    ensures { result ≡ joined a b c d e f g h }
-{
-    a as u64
-        + b as u64 * 0x100
-        + c as u64 * 0x1_0000
-        + d as u64 * 0x100_0000
-        + e as u64 * 0x1_0000_0000
-        + f as u64 * 0x100_0000_0000
-        + g as u64 * 0x1_0000_0000_0000
-        + h as u64 * 0x100_0000_0000_0000
-}
+// A slice and a place, and not a slice of eight bytes, which each caller would have to cut out and show to be of that length.
 
 // The word at s[at..at + 8].
 pub fn word(s: &[u8], at: usize) -> u64
     requires { at + 8 ≤ length s.now }
     ensures { result ≡ word_at s.now at }
 {
-    join(
+    u64::from_le_bytes([
         s[at],
         s[at + 1],
         s[at + 2],
@@ -36,7 +24,7 @@ pub fn word(s: &[u8], at: usize) -> u64
         s[at + 5],
         s[at + 6],
         s[at + 7],
-    )
+    ])
 }
 
 // The f64 of a pattern. f64::from_bits is undefined at a NaN's, and is not asked there.
@@ -89,14 +77,7 @@ pub fn put_word(out: &mut [u8], at: usize, n: u64)
     requires { at + 8 ≤ length out.old }
     ensures { out.new ≡ sets out.old at (bytes_of n) }
 {
-    out[at] = (n % 256) as u8;
-    out[at + 1] = (n / 0x100 % 256) as u8;
-    out[at + 2] = (n / 0x1_0000 % 256) as u8;
-    out[at + 3] = (n / 0x100_0000 % 256) as u8;
-    out[at + 4] = (n / 0x1_0000_0000 % 256) as u8;
-    out[at + 5] = (n / 0x100_0000_0000 % 256) as u8;
-    out[at + 6] = (n / 0x1_0000_0000_0000 % 256) as u8;
-    out[at + 7] = (n / 0x100_0000_0000_0000 % 256) as u8;
+    out[at..at + 8].copy_from_slice(&n.to_le_bytes());
 }
 
 // Stores a number at out[at..at + 8].
@@ -107,7 +88,7 @@ pub fn put_value(out: &mut [u8], at: usize, x: f64)
     put_word(out, at, to_bits(x));
 }
 
-// Stores a finite number at out[at..at + 8]: no test for a NaN.
+// The same of a finite number. A function beside the other, since the test for a NaN would cost time in each store.
 pub fn put_finite_value(out: &mut [u8], at: usize, x: f64)
     requires at_in_bounds { at + 8 ≤ length out.old }
     requires x_value { finite x ≡ true }

@@ -1,27 +1,32 @@
 -- The paper's bench list, its proved lines, as one list of pairs: what the definitions of the contracts give, and what the paper says. `bench-list`
 -- (proofs/BenchList.antt) proves it. Values stand as bit patterns, a refusal as its number and its figures.
-use Rattle.std.specs.Prelude.{ℕ, Bool, cond, List, [], ◌∷◌, ◌++◌, map, replicate, Float}
+use Rattle.std.specs.Prelude.{ℕ, Bool, cond, List, [], ◌∷◌, ◌++◌, map, replicate, Result, Float}
 use Rattle.std.specs.Float.{binary64}
 use Rattle.std.specs.Float.Ieee.{of_bits, to_bits}
 use Rattle.checks.specs.Refusals.{Figures, none, lengths, norm}
-use Rattle.checks.specs.Checks.{tolerance, validate_sgal3_params}
+use Rattle.checks.specs.Checks.{Check, tolerance, validate_sgal3_params}
 use Rattle.checks.specs.Outcomes.{Outcome, outcome}
-use Rattle.checks.specs.declared.Check.{Check}
+use Rattle.checks.specs.declared.Refusal.{Refusal}
 use Rattle.law.specs.Patterns.{zero, minus_zero, half, minus_half, one, minus_one, two, minus_two, two_and_a_half, three, minus_three, four, minus_four, ten}
+use Rattle.linear.specs.declared.Vec3.{Vec3}
+use Rattle.linear.specs.declared.Mat3.{Mat3}
+use Rattle.manifold.specs.Outcomes as Outcomes
+use Rattle.manifold_blocks.specs.Calls as Generic
+use Rattle.so3.specs.Elements as So3Elements
+use Rattle.so3.specs.Tangents as So3Tangents
+use Rattle.so3.specs.Group as So3
+use Rattle.so3.specs.Outcomes as RotationOutcomes
+use Rattle.so3.specs.declared.Element.{Element as Rotation}
+use Rattle.so3.specs.declared.Tangent.{Tangent as RotationTangent}
 use Rattle.so3_blocks.specs.Calls as Rotations
-use Rattle.so3_tangent_blocks.specs.Calls as RotationTangents
-use Rattle.so3_answers.specs.Outcomes as RotationOutcomes
-use Rattle.so3_answers.specs.declared.Answer.{Answer as RotationAnswer}
-use Rattle.so3_answers.specs.declared.TangentAnswer.{TangentAnswer}
-use Rattle.so3_answers.specs.declared.ValidAnswer.{ValidAnswer}
-use Rattle.so3_answers.specs.declared.MatrixAnswer.{MatrixAnswer}
-use Rattle.so3_answers.specs.declared.VectorAnswer.{VectorAnswer}
-use Rattle.sgal3_blocks.specs.Calls as Galilean
-use Rattle.sgal3_answers.specs.Outcomes as GalileanOutcomes
-use Rattle.sgal3_answers.specs.declared.TangentAnswer.{TangentAnswer as GalileanTangentAnswer}
+use Rattle.sgal3.specs.Elements as Elements
+use Rattle.sgal3.specs.Tangents as Tangents
+use Rattle.sgal3.specs.Group as SGal3
+use Rattle.sgal3.specs.Outcomes as GalileanOutcomes
+use Rattle.sgal3.specs.declared.Element.{Element}
+use Rattle.sgal3.specs.declared.Tangent.{Tangent}
 use Rattle.sgal3_composition.specs.Calls as Calls
 use Rattle.sgal3_composition.specs.Outcomes as ElementOutcome
-use Rattle.sgal3_composition.specs.declared.Answer.{Answer}
 use Rattle.handset.specs.Entries as Entries
 
 pub record Example : Type 0 where
@@ -41,28 +46,53 @@ abbrev patterns : Outcome Float → List ℕ
 patterns o = listed (to_bits binary64) o
 
 abbrev check : Check → List ℕ
-check c = patterns (outcome c [])
+check c = patterns (outcome (λ _. []) [] c)
 
-abbrev answer : Answer → List ℕ
+abbrev answer : Result Element Refusal → List ℕ
 answer a = patterns (ElementOutcome.element a)
 
-abbrev galilean_tangent : GalileanTangentAnswer → List ℕ
+abbrev galilean_tangent : Result Tangent Refusal → List ℕ
 galilean_tangent a = patterns (GalileanOutcomes.tangent a)
 
-abbrev rotation : RotationAnswer → List ℕ
+abbrev rotation : Result Rotation Refusal → List ℕ
 rotation a = patterns (RotationOutcomes.element a)
 
-abbrev tangent : TangentAnswer → List ℕ
+abbrev tangent : Result RotationTangent Refusal → List ℕ
 tangent a = patterns (RotationOutcomes.tangent a)
 
-abbrev vector : VectorAnswer → List ℕ
-vector a = patterns (RotationOutcomes.vector a)
+abbrev vector : Result Vec3 Refusal → List ℕ
+vector a = patterns (Outcomes.vector a)
 
-abbrev matrix : MatrixAnswer → List ℕ
-matrix a = patterns (RotationOutcomes.matrix a)
+abbrev matrix : Result Mat3 Refusal → List ℕ
+matrix a = patterns (Outcomes.matrix a)
 
-abbrev valid : ValidAnswer → List ℕ
-valid a = listed (λ (b : Bool). cond b 1 0) (RotationOutcomes.valid a)
+abbrev valid : Result Bool Refusal → List ℕ
+valid a = listed (λ (b : Bool). cond b 1 0) (Outcomes.valid a)
+
+-- ---- the calls of any group, at SO(3) and at SGal(3)
+abbrev so3_exp : List Float → Result Rotation Refusal
+so3_exp = Generic.exp So3.tangents So3Elements.values
+
+abbrev so3_log : List Float → Result RotationTangent Refusal
+so3_log = Generic.log So3.group So3Tangents.values
+
+abbrev so3_act : List Float → List Float → Result Vec3 Refusal
+so3_act = Generic.act So3.group
+
+abbrev so3_is_valid : List Float → Float → Result Bool Refusal
+so3_is_valid = Generic.is_valid So3.group
+
+abbrev sgal3_exp : List Float → Result Element Refusal
+sgal3_exp = Generic.exp SGal3.tangents Elements.coeffs
+
+abbrev sgal3_log : List Float → Result Tangent Refusal
+sgal3_log = Generic.log SGal3.group Tangents.coeffs
+
+abbrev sgal3_act : List Float → List Float → Result Vec3 Refusal
+sgal3_act = Generic.act SGal3.group
+
+abbrev sgal3_is_valid : List Float → Float → Result Bool Refusal
+sgal3_is_valid = Generic.is_valid SGal3.group
 
 abbrev nan : ℕ
 nan = 0x7ff8_0000_0000_0000
@@ -100,7 +130,7 @@ abbrev p123 : List Float
 p123 = floats (one ∷ two ∷ three ∷ [])
 
 -- ---- the C entries: the number that is returned, and the bytes that the output then holds
-abbrev entry : Answer → List ℕ → List ℕ
+abbrev entry : Result Element Refusal → List ℕ → List ℕ
 entry answer out = Entries.number answer ∷ Entries.written answer out
 
 -- little-endian numbers whose patterns have bytes other than 0 in their two highest places alone: of each these two
@@ -148,10 +178,10 @@ bench_list =
     ∷ says (answer (Calls.inverse (block one zero)))
     (0 ∷ minus_zero ∷ minus_zero ∷ minus_zero ∷ one ∷ minus_zero ∷ minus_zero ∷ minus_zero ∷ minus_zero ∷ minus_zero ∷ minus_zero ∷ minus_zero ∷ [])
     -- (0.5,0.5,0.5,0.5) rotates (1,2,3) to (3,1,2), and (0,0,0,1) to (-1,-2,3): act of SO3 and of SGal3
-    ∷ says (vector (Rotations.act (floats (half ∷ half ∷ half ∷ half ∷ [])) p123)) (0 ∷ three ∷ one ∷ two ∷ [])
-    ∷ says (vector (Rotations.act (floats (zero ∷ zero ∷ zero ∷ one ∷ [])) p123)) (0 ∷ minus_one ∷ minus_two ∷ three ∷ [])
-    ∷ says (vector (Galilean.act (turned (half ∷ half ∷ half ∷ half ∷ [])) p123)) (0 ∷ three ∷ one ∷ two ∷ [])
-    ∷ says (vector (Galilean.act (turned (zero ∷ zero ∷ zero ∷ one ∷ [])) p123)) (0 ∷ minus_one ∷ minus_two ∷ three ∷ [])
+    ∷ says (vector (so3_act (floats (half ∷ half ∷ half ∷ half ∷ [])) p123)) (0 ∷ three ∷ one ∷ two ∷ [])
+    ∷ says (vector (so3_act (floats (zero ∷ zero ∷ zero ∷ one ∷ [])) p123)) (0 ∷ minus_one ∷ minus_two ∷ three ∷ [])
+    ∷ says (vector (sgal3_act (turned (half ∷ half ∷ half ∷ half ∷ [])) p123)) (0 ∷ three ∷ one ∷ two ∷ [])
+    ∷ says (vector (sgal3_act (turned (zero ∷ zero ∷ zero ∷ one ∷ [])) p123)) (0 ∷ minus_one ∷ minus_two ∷ three ∷ [])
     -- w = 1 + 2 ^ -20 is accepted; w = 1 + 2 ^ -19, 2 ^ 511: 3 with that norm; 2 ^ 512: 2; all four zero: 3, norm 0
     ∷ says (check (validate_sgal3_params (block 0x3ff0_0001_0000_0000 zero))) (0 ∷ [])
     ∷ says (check (validate_sgal3_params (block 0x3ff0_0002_0000_0000 zero))) (3 ∷ 0x3ff0_0002_0000_0000 ∷ [])
@@ -165,37 +195,37 @@ bench_list =
     ∷ says (answer (Calls.chain [])) (0 ∷ zero ∷ zero ∷ zero ∷ one ∷ zero ∷ zero ∷ zero ∷ zero ∷ zero ∷ zero ∷ zero ∷ [])
     ∷ says (answer (Calls.chain (A ++ B))) (0 ∷ ten ∷ three ∷ four ∷ one ∷ zero ∷ zero ∷ zero ∷ four ∷ two ∷ zero ∷ two_and_a_half ∷ [])
     -- exp with theta (2 ^ -17, 0, 0): w = 1 - 2 ^ -37, x = 2 ^ -18 * (1 - 2 ^ -37); theta (2 ^ -16, 0, 0): 4
-    ∷ says (rotation (RotationTangents.exp (along_x 0x3ee0_0000_0000_0000))) (0 ∷ 0x3fef_ffff_ffff_0000 ∷ 0x3ecf_ffff_ffff_0000 ∷ zero ∷ zero ∷ [])
-    ∷ says (rotation (RotationTangents.exp (along_x 0x3ef0_0000_0000_0000))) (4 ∷ [])
+    ∷ says (rotation (so3_exp (along_x 0x3ee0_0000_0000_0000))) (0 ∷ 0x3fef_ffff_ffff_0000 ∷ 0x3ecf_ffff_ffff_0000 ∷ zero ∷ zero ∷ [])
+    ∷ says (rotation (so3_exp (along_x 0x3ef0_0000_0000_0000))) (4 ∷ [])
     -- log tests the half angle: (1, 2 ^ -17, 0, 0) is answered, and with w below zero by -2; its Jacobian tests the whole angle as well: 4, all +0
-    ∷ says (tangent (Rotations.log (near one))) (0 ∷ 0x3eef_ffff_fffc_0000 ∷ zero ∷ zero ∷ [])
-    ∷ says (tangent (Rotations.log (near minus_one))) (0 ∷ 0xbeef_ffff_fffc_0000 ∷ minus_zero ∷ minus_zero ∷ [])
+    ∷ says (tangent (so3_log (near one))) (0 ∷ 0x3eef_ffff_fffc_0000 ∷ zero ∷ zero ∷ [])
+    ∷ says (tangent (so3_log (near minus_one))) (0 ∷ 0xbeef_ffff_fffc_0000 ∷ minus_zero ∷ minus_zero ∷ [])
     ∷ says (matrix (Rotations.log_jacobian (near one))) (4 ∷ zero ∷ zero ∷ zero ∷ zero ∷ zero ∷ zero ∷ zero ∷ zero ∷ zero ∷ [])
     -- the left Jacobian, and the right one, its transpose
-    ∷ says (matrix (RotationTangents.left_jacobian (along_x 0x3ee0_0000_0000_0000)))
+    ∷ says (matrix (Rotations.left_jacobian (along_x 0x3ee0_0000_0000_0000)))
     (0 ∷ one ∷ zero ∷ zero ∷ zero ∷ one ∷ 0xbed0_0000_0000_0000 ∷ zero ∷ 0x3ed0_0000_0000_0000 ∷ one ∷ [])
-    ∷ says (matrix (RotationTangents.right_jacobian (along_x 0x3ee0_0000_0000_0000)))
+    ∷ says (matrix (Rotations.right_jacobian (along_x 0x3ee0_0000_0000_0000)))
     (0 ∷ one ∷ zero ∷ zero ∷ zero ∷ one ∷ 0x3ed0_0000_0000_0000 ∷ zero ∷ 0xbed0_0000_0000_0000 ∷ one ∷ [])
     -- is_valid of (2, 0, 0, 0) with 1e-6, and with an infinite tolerance: no
-    ∷ says (valid (Rotations.is_valid (floats (two ∷ zero ∷ zero ∷ zero ∷ [])) tolerance)) (0 ∷ 0 ∷ [])
-    ∷ says (valid (Rotations.is_valid (floats (two ∷ zero ∷ zero ∷ zero ∷ [])) (of_bits binary64 0x7ff0_0000_0000_0000))) (0 ∷ 0 ∷ [])
+    ∷ says (valid (so3_is_valid (floats (two ∷ zero ∷ zero ∷ zero ∷ [])) tolerance)) (0 ∷ 0 ∷ [])
+    ∷ says (valid (so3_is_valid (floats (two ∷ zero ∷ zero ∷ zero ∷ [])) (of_bits binary64 0x7ff0_0000_0000_0000))) (0 ∷ 0 ∷ [])
     -- exp of rho (1, 0, 0), nu (0, 2, 0), theta 0, s 3: t = (1, 3, 0); log returns the tangent
-    ∷ says (answer (Galilean.exp (floats (one ∷ zero ∷ zero ∷ zero ∷ two ∷ zero ∷ zero ∷ zero ∷ zero ∷ three ∷ []))))
+    ∷ says (answer (sgal3_exp (floats (one ∷ zero ∷ zero ∷ zero ∷ two ∷ zero ∷ zero ∷ zero ∷ zero ∷ three ∷ []))))
     (0 ∷ one ∷ three ∷ zero ∷ one ∷ zero ∷ zero ∷ zero ∷ zero ∷ two ∷ zero ∷ three ∷ [])
-    ∷ says (galilean_tangent (Galilean.log (floats (one ∷ three ∷ zero ∷ one ∷ zero ∷ zero ∷ zero ∷ zero ∷ two ∷ zero ∷ three ∷ []))))
+    ∷ says (galilean_tangent (sgal3_log (floats (one ∷ three ∷ zero ∷ one ∷ zero ∷ zero ∷ zero ∷ zero ∷ two ∷ zero ∷ three ∷ []))))
     (0 ∷ one ∷ zero ∷ zero ∷ zero ∷ two ∷ zero ∷ zero ∷ zero ∷ zero ∷ three ∷ [])
     -- SGal3's exp with the same thetas as SO3's
-    ∷ says (answer (Galilean.exp (turn_x 0x3ee0_0000_0000_0000)))
+    ∷ says (answer (sgal3_exp (turn_x 0x3ee0_0000_0000_0000)))
     (0 ∷ zero ∷ zero ∷ zero ∷ 0x3fef_ffff_ffff_0000 ∷ 0x3ecf_ffff_ffff_0000 ∷ zero ∷ zero ∷ zero ∷ zero ∷ zero ∷ zero ∷ [])
-    ∷ says (answer (Galilean.exp (turn_x 0x3ef0_0000_0000_0000))) (4 ∷ [])
+    ∷ says (answer (sgal3_exp (turn_x 0x3ef0_0000_0000_0000))) (4 ∷ [])
     -- q = (1, 2 ^ -17, 0, 0): SGal3's log refuses 4, since it tests the squared theta of its own answer as well
-    ∷ says (galilean_tangent (Galilean.log (floats (zero ∷ zero ∷ zero ∷ one ∷ 0x3ee0_0000_0000_0000 ∷ zero ∷ zero ∷ zero ∷ zero ∷ zero ∷ zero ∷ [])))) (4 ∷ [])
+    ∷ says (galilean_tangent (sgal3_log (floats (zero ∷ zero ∷ zero ∷ one ∷ 0x3ee0_0000_0000_0000 ∷ zero ∷ zero ∷ zero ∷ zero ∷ zero ∷ zero ∷ [])))) (4 ∷ [])
     -- SGal3's is_valid of [0, 0, 0 | 2, 0, 0, 0 | 0, 0, 0 | 0] with 1e-6: yes; with tolerance 0: no
-    ∷ says (valid (Galilean.is_valid (block two zero) tolerance)) (0 ∷ 1 ∷ [])
-    ∷ says (valid (Galilean.is_valid (block two zero) (of_bits binary64 zero))) (0 ∷ 0 ∷ [])
+    ∷ says (valid (sgal3_is_valid (block two zero) tolerance)) (0 ∷ 1 ∷ [])
+    ∷ says (valid (sgal3_is_valid (block two zero) (of_bits binary64 zero))) (0 ∷ 0 ∷ [])
     -- log of A: rho = t - s/2 v; A acts on (1, 2, 3) by t + s v
-    ∷ says (galilean_tangent (Galilean.log A)) (0 ∷ zero ∷ two ∷ three ∷ four ∷ zero ∷ zero ∷ zero ∷ zero ∷ zero ∷ half ∷ [])
-    ∷ says (vector (Galilean.act A p123)) (0 ∷ four ∷ four ∷ 0x4018_0000_0000_0000 ∷ [])
+    ∷ says (galilean_tangent (sgal3_log A)) (0 ∷ zero ∷ two ∷ three ∷ four ∷ zero ∷ zero ∷ zero ∷ zero ∷ zero ∷ half ∷ [])
+    ∷ says (vector (sgal3_act A p123)) (0 ∷ four ∷ four ∷ 0x4018_0000_0000_0000 ∷ [])
     -- the C entries on bytes: A then B into an output and in place, the inverse of A, the chain of A and B, the empty chain
     ∷ says (entry (Entries.compose bytes_a bytes_b out88) out88) (0 ∷ bytes_ab)
     ∷ says (entry (Entries.compose_in_place bytes_a bytes_b) bytes_a) (0 ∷ bytes_ab)

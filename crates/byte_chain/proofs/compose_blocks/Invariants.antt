@@ -1,14 +1,13 @@
 -- What is left of the chain, composed with what is held, gives the answer.
-use Rattle.std.proofs.Common.{◌≡◌, ◌+◌, ◌*◌, ◌/◌, ◌≤◌, length}
-use Rattle.element_bytes.specs.Bytes.{values_at}
-use Rattle.sgal3_composition.specs.Calls.{chain_from}
-use Rattle.sgal3_composition.specs.declared.Answer.TheVariants.{Done}
+use Rattle.std.specs.Prelude.{Ok}
+use Rattle.std.proofs.Common.{◌≡◌, length}
+use Rattle.std.specs.Slice.Iter.{chunks_exact_rest, chunks_exact_size}
+use Rattle.byte_chain.specs.Steps.{chain_on}
 use Rattle.byte_chain.proofs.compose_blocks.Given as goal
 
-abbrev pub invariant-loop-left : goal.invariant-loop-left
-invariant-loop-left l =
-    (l.at + l.left * 88 ≤ length l.s)
-    × (chain_from (Done l.fn.start) (length l.s / 88) (values_at (length l.s / 88 * 11) l.s 0) ≡ chain_from (Done l.held) l.left (values_at (l.left * 11) l.s l.at))
+abbrev pub invariant-loop-block : goal.invariant-loop-block
+invariant-loop-block l =
+    (chunks_exact_size l.blocks ≡ 88) × (chain_on (Ok l.fn.start) l.s ≡ chain_on (Ok l.held) (chunks_exact_rest l.blocks))
 
-abbrev pub decreases-loop-left : goal.decreases-loop-left
-decreases-loop-left l = l.left
+abbrev pub decreases-loop-block : goal.decreases-loop-block
+decreases-loop-block l = length (chunks_exact_rest l.blocks)

@@ -1,14 +1,14 @@
-use Rattle.std.proofs.Common.{sym, ◌∙◌, length-set, arith}
+use Rattle.std.proofs.Common.{sym, ◌∙◌}
 use Rattle.digits.proofs.Digits.{next-digit, no_digit}
 use Rattle.digits.proofs.put_hex.Goals as goal
 
-pub loop-left-preserved : goal.loop-left-preserved
-loop-left-preserved c =
-    let l = c.loop-left in
-    let next = next-digit l.out c.args.at l.left l.rest c.loop-left-test.true in
-    (omega arith, simp length-set l.invariant.1, rw c.digit-d.ensures (sym next ∙ l.invariant.2))
+pub loop-k-preserved : goal.loop-k-preserved
+loop-k-preserved c =
+    let l = c.loop-k in
+    let next = next-digit c.args.case l.out c.args.at l.k l.rest c.loop-k-test.true in
+    rw c.digit.ensures (sym next ∙ l.invariant)
 
 pub returns : goal.returns
 returns c =
-    let l = c.loop-left in
-    sym (no_digit l.out c.args.at l.left l.rest c.loop-left-test.false) ∙ l.invariant.2
+    let l = c.loop-k in
+    sym (no_digit c.args.case l.out c.args.at l.k l.rest c.loop-k-test.false) ∙ l.invariant

@@ -1,19 +1,18 @@
 -- The parts fill the block.
-use Rattle.element_bytes.proofs.Parts.{translation-finite, rotation-finite, velocity-finite, time-finite}
+use mathlib.Core.List.{[], ◌∷◌, ◌++◌}
+use Rattle.checks.proofs.Finite.{finite-append}
+use Rattle.sgal3.specs.Elements.{coeffs}
+use Rattle.element_bytes.specs.Steps.{vector_values, quaternion_values}
 use Rattle.element_bytes.proofs.Stored.{element-sets}
 use Rattle.element_bytes.proofs.put_element.Goals as goal
 
-pub put_vector-requires-clause-a_value : goal.put_vector-requires-clause-a_value
-put_vector-requires-clause-a_value c = translation-finite c.args.e c.requires.e_value
-
-pub put_quaternion-requires-clause-q_value : goal.put_quaternion-requires-clause-q_value
-put_quaternion-requires-clause-q_value c = rotation-finite c.args.e c.requires.e_value
-
+-- the search stops at its limit for the velocity alone, behind seven values and before one
 pub put_vector-requires-2-clause-a_value : goal.put_vector-requires-2-clause-a_value
-put_vector-requires-2-clause-a_value c = velocity-finite c.args.e c.requires.e_value
-
-pub put_finite_value-requires-clause-x_value : goal.put_finite_value-requires-clause-x_value
-put_finite_value-requires-clause-x_value c = time-finite c.args.e c.requires.e_value
+unfolding coeffs
+put_vector-requires-2-clause-a_value c =
+    let e = c.args.e in
+    let rest = finite-append (vector_values e.translation ++ quaternion_values e.rotation) (vector_values e.velocity ++ (e.time ∷ [])) c.requires.e_value in
+    (finite-append (vector_values e.velocity) (e.time ∷ []) rest.1).0
 
 pub returns : goal.returns
 returns c =

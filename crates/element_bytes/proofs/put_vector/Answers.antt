@@ -1,17 +1,6 @@
 -- Three stores as one.
-use lib.Dec.{lit<}
-use Rattle.checks.proofs.Finite.{finite-at}
 use Rattle.element_bytes.proofs.Stored.{vector-sets}
 use Rattle.element_bytes.proofs.put_vector.Goals as goal
-
-pub put_finite_value-requires-clause-x_value : goal.put_finite_value-requires-clause-x_value
-put_finite_value-requires-clause-x_value c = finite-at _ c.requires.a_value 0 (lit< tt)
-
-pub put_finite_value-requires-2-clause-x_value : goal.put_finite_value-requires-2-clause-x_value
-put_finite_value-requires-2-clause-x_value c = finite-at _ c.requires.a_value 1 (lit< tt)
-
-pub put_finite_value-requires-3-clause-x_value : goal.put_finite_value-requires-3-clause-x_value
-put_finite_value-requires-3-clause-x_value c = finite-at _ c.requires.a_value 2 (lit< tt)
 
 pub returns : goal.returns
 returns c =

@@ -1,5 +1,4 @@
 use mathlib.Core.Path.{sym, ◌∙◌}
-use borrow.Author.Rules.{rules}
 use Rattle.handset.specs.Entries as Entries
 use Rattle.handset.specs.Steps.{first_or}
 use Rattle.handset.proofs.Outputs.{refused-output, refused-length, taken-output}
@@ -17,10 +16,6 @@ returns-then-actual-gt360448 c = refused-length _ _ _ _ c.if-out-ne88.false (too
 pub returns-then-actual-ne0 : goal.returns-then-actual-ne0
 unfolding Entries.chain
 returns-then-actual-ne0 c = refused-length _ _ _ _ c.if-out-ne88.false (not-whole _ _ c.if-actual-gt360448.false c.if-actual-ne0.true)
-
-pub store_chain-requires-clause-out_len : goal.store_chain-requires-clause-out_len
-unfolding first_or
-store_chain-requires-clause-out_len c = search rules
 
 pub returns : goal.returns
 unfolding Entries.chain first_or

@@ -1,5 +1,3 @@
-use mathlib.Core.Path.{ap, ◌∙◌}
-use lib.ListN.{length}
 use Rattle.handset.specs.Entries as Entries
 use Rattle.handset.proofs.Outputs.{refused-output, refused-left, refused-right, taken-output, first_block}
 use Rattle.byte_chain.proofs.Chains.{one_block}
@@ -16,9 +14,6 @@ returns-then-left-ne88 c = refused-left _ _ _ c.if-out-ne88.false c.if-left-ne88
 pub returns-then-right-ne88 : goal.returns-then-right-ne88
 unfolding Entries.compose
 returns-then-right-ne88 c = refused-right _ _ _ c.if-out-ne88.false c.if-right-ne88.true
-
-pub store_chain-requires-clause-out_len : goal.store_chain-requires-clause-out_len
-store_chain-requires-clause-out_len c = ap length (first_block _ _ c.if-left-ne88.false) ∙ c.if-left-ne88.false
 
 pub returns : goal.returns
 unfolding Entries.compose

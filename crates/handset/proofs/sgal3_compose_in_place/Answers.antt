@@ -1,4 +1,3 @@
-use borrow.Author.Rules.{rules}
 use Rattle.byte_chain.proofs.Chains.{one_block}
 use Rattle.handset.specs.Entries as Entries
 use Rattle.handset.specs.Steps.{first_or}
@@ -12,10 +11,6 @@ returns-then-held-ne88 c = refused-output _ _ c.if-held-ne88.true
 pub returns-then-step-ne88 : goal.returns-then-step-ne88
 unfolding Entries.compose_in_place Entries.compose
 returns-then-step-ne88 c = refused-right _ _ _ c.if-held-ne88.false c.if-step-ne88.true
-
-pub store_chain-requires-clause-out_len : goal.store_chain-requires-clause-out_len
-unfolding first_or
-store_chain-requires-clause-out_len c = search rules
 
 pub returns : goal.returns
 unfolding Entries.compose_in_place Entries.compose first_or

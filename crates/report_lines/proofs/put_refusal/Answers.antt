@@ -1,17 +1,6 @@
-use Rattle.std.proofs.Common.{rules, arith}
-use Rattle.digits.proofs.Digits.{decimal-short}
+use Rattle.std.proofs.Common.{arith}
 use Rattle.report_lines.proofs.Lines.{refusal-sets, refusal-length}
 use Rattle.report_lines.proofs.put_refusal.Goals as goal
-
-pub put_ending-requires : goal.put_ending-requires
-put_ending-requires c =
-    let short = decimal-short c.args.n in
-    search rules
-
-pub overflow_add-result : goal.overflow_add-result
-overflow_add-result c =
-    let short = decimal-short c.args.n in
-    search rules
 
 pub returns-clause-value : goal.returns-clause-value
 returns-clause-value c = omega (arith, refusal-length c.args.n, c.put_decimal-end.ensures.value)

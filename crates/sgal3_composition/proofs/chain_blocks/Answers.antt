@@ -1,22 +1,31 @@
-use Rattle.std.proofs.Common.{sym, ◌∙◌, arith}
+use Rattle.std.proofs.Common.{sym, ap, ◌∙◌, arith}
+use Rattle.std.specs.Slice.Iter.{chunks_exact_size}
 use Rattle.sgal3_composition.specs.Calls as Calls
 use Rattle.sgal3_composition.proofs.Blocks.{next, end}
+use Rattle.sgal3_composition.proofs.Generic.{answers}
 use Rattle.sgal3_composition.proofs.chain_blocks.Goals as goal
 
-pub loop-left-init : goal.loop-left-init
+pub loop-block-init : goal.loop-block-init
 unfolding Calls.chain_blocks
-loop-left-init c = (omega arith, rw c.identity.ensures)
+loop-block-init c =
+    let blocks = c.chunks_exact-block-items.ensures in
+    let same = c.into_iter-block-iterator.ensures.into_iter_gives in (
+      ap chunks_exact_size same ∙ blocks.size,
+      rw (same, blocks.rest, c.identity.ensures),
+    )
 
-pub loop-left-preserved : goal.loop-left-preserved
-loop-left-preserved c =
-    let l = c.loop-left in (
-      omega arith,
+pub loop-block-preserved : goal.loop-block-preserved
+loop-block-preserved c =
+    let l = c.loop-block in
+    let step = c.in-Some.ensures.steps in (
+      step.0 ∙ l.invariant.0,
       l.invariant.1
-          ∙ next l.held l.left l.at _ (omega arith)
-          ∙ rw (c.compose_answers-held.ensures, c.check_element.ensures, c.tolerance.ensures),
+          ∙ next l.held _ _ _ step.1.0 (step.1.1 ∙ l.invariant.0)
+          ∙ rw (c.compose_answers-held.ensures, answers, c.check_element.ensures, c.tolerance.ensures),
     )
 
 pub returns : goal.returns
 returns c =
-    let l = c.loop-left in
-    sym (l.invariant.1 ∙ end l.held l.left l.at _ (omega arith))
+    let l = c.loop-block in
+    let step = c.in-None.ensures.steps in
+    sym (l.invariant.1 ∙ end l.held _ (omega (arith, step.1.0, l.invariant.0)))

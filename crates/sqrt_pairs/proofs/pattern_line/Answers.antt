@@ -6,4 +6,4 @@ use Rattle.sqrt_pairs.proofs.pattern_line.Goals as goal
 pub returns : goal.returns
 returns c =
     c.put_hex.ensures
-    ∙ rw c.put.ensures (pattern-stored c.args.name.now _ c.args.b (search rules) refl refl)
+    ∙ rw c.copy_from_slice.ensures.after (pattern-stored c.args.name.now _ c.args.b (search rules) refl refl)

@@ -3,4 +3,4 @@ use Rattle.words.proofs.word.Goals as goal
 
 pub returns : goal.returns
 unfolding word_at
-returns c = c.join.ensures
+returns c = c.from_le_bytes.ensures

@@ -1,0 +1,62 @@
+-- What the calls need of a group: its operations, and how blocks of numbers stand for its elements and tangents. SO(3)'s and SGal(3)'s are in
+-- so3/specs/Group.antt and sgal3/specs/Group.antt. Definitions only.
+use Rattle.std.specs.Prelude.{ℕ, Bool, List, Result, Ok, Float}
+use Rattle.checks.specs.Checks.{Check, and_then, tolerance, check_length, check_values, check_param_block}
+use Rattle.checks.specs.declared.Refusal.{Refusal}
+use Rattle.linear.specs.declared.Vec3.{Vec3}
+use Rattle.linear.specs.declared.Mat3.{Mat3}
+
+-- a group of elements G with tangents T; its Jacobians are matrices J, that of act with respect to the element a matrix P
+pub record Group (G T J P : Type 0) : Type 0 where
+  -- a block of so many values, the place of its quaternion, and the element of any such values
+  pub dim : ℕ
+  pub quaternion : ℕ
+  pub element_of : List Float → G
+  pub compose : G → G → G
+  pub inverse : G → G
+  pub log : G → T
+  -- whether log would leave its series
+  pub leaves_series : G → Bool
+  pub act : G → Vec3 → Vec3
+  pub rotation_matrix : G → Mat3
+  pub normalize : G → G
+  pub is_valid : G → Float → Bool
+  pub jacobian_identity : J
+  pub adjoint : G → J
+  pub inverse_jacobian : G → J
+  -- of compose a b with respect to a, of act a p with respect to a
+  pub compose_jacobian_self : G → G → J
+  pub act_jacobian_self : G → Vec3 → P
+
+-- tangents T of a group of elements G; a tangent as a matrix is an A, its adjoint a J
+pub record Tangents (G T J A : Type 0) : Type 0 where
+  -- a block of so many values, and the tangent of any such values
+  pub dim : ℕ
+  pub tangent_of : List Float → T
+  pub zero : T
+  pub exp : T → G
+  -- whether exp would leave its series
+  pub leaves_series : T → Bool
+  pub hat : T → A
+  -- of place i of a tangent
+  pub generator : ℕ → A
+  pub small_adj : T → J
+  pub lie_bracket : T → T → T
+  pub normalize : T → T
+  pub normalized : T → T
+
+-- ---- blocks
+unfoldable pub validate_params : {G T J P : Type 0} → Group G T J P → List Float → Check
+validate_params g s = check_param_block s g.dim g.quaternion tolerance
+
+-- the element of any values: a wrong length alone is refused
+unfoldable pub from_param_slice : {G T J P : Type 0} → Group G T J P → List Float → Result G Refusal
+from_param_slice g s = and_then (check_length s g.dim) (λ _. Ok (g.element_of s))
+
+-- the element of a block, or why the block is refused
+unfoldable pub try_from_param_slice : {G T J P : Type 0} → Group G T J P → List Float → Result G Refusal
+try_from_param_slice g s = and_then (validate_params g s) (λ _. Ok (g.element_of s))
+
+-- the tangent of a block, or why the block is refused
+unfoldable pub try_from_slice : {G T J A : Type 0} → Tangents G T J A → List Float → Result T Refusal
+try_from_slice t s = and_then (check_values s t.dim) (λ _. Ok (t.tangent_of s))

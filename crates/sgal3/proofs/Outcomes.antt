@@ -1,0 +1,21 @@
+-- What is answered with a Galilean tangent, or with a 10 by 10 matrix: its values, or an overflow. Assumes nothing.
+use mathlib.Core.Path.{◌≡◌}
+use mathlib.Core.List.{List, []}
+use lib.ListN.{replicate}
+use lib.Ieee.{Float}
+use Rattle.law.specs.Rounded.{rounded}
+use Rattle.checks.specs.Outcomes.{result}
+use Rattle.manifold.specs.Answers.{answered}
+use Rattle.manifold.proofs.Outcomes.{answered-outcome}
+use Rattle.sgal3_rows.specs.TenRows as TenRows
+use Rattle.sgal3.specs.Tangents as Tangents
+use Rattle.sgal3.specs.Outcomes.{tangent, matrix10}
+use Rattle.sgal3.specs.declared.Tangent.{Tangent}
+
+pub tangent-outcome : (t : Tangent) → tangent (answered Tangents.coeffs t) ≡ result (Tangents.coeffs t) []
+unfolding tangent
+tangent-outcome = answered-outcome Tangents.coeffs []
+
+pub matrix10-outcome : (m : List (List Float)) → matrix10 (answered TenRows.values m) ≡ result (TenRows.values m) (replicate 100 rounded.zero)
+unfolding matrix10
+matrix10-outcome = answered-outcome TenRows.values (replicate 100 rounded.zero)

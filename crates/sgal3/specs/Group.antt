@@ -1,0 +1,55 @@
+-- SGal(3) as a group with its tangents. Definitions only.
+use Rattle.std.specs.Prelude.{Bool, List, Float}
+use Rattle.manifold.specs.Group as Manifold
+use Rattle.so3.specs.Group as So3
+use Rattle.sgal3.specs.Elements as Elements
+use Rattle.sgal3.specs.Tangents as Tangents
+use Rattle.sgal3.specs.Matrices as Matrices
+use Rattle.sgal3.specs.Algebra as Algebra
+use Rattle.sgal3.specs.declared.Element.{Element}
+use Rattle.sgal3.specs.declared.Tangent.{Tangent}
+
+-- log tests the squared theta of its own answer, and the half angle
+unfoldable pub log_leaves_series : Element → Bool
+log_leaves_series a = So3.log_jacobian_leaves_series (Elements.rotation_impl a)
+
+-- exp tests the squared theta
+unfoldable pub exp_leaves_series : Tangent → Bool
+exp_leaves_series t = So3.exp_leaves_series (Tangents.turn t)
+
+abbrev pub group : Manifold.Group Element Tangent (List (List Float)) (List Float)
+group =
+    record {
+      dim = 11;
+      quaternion = 3;
+      element_of = Elements.element_of;
+      compose = Elements.compose;
+      inverse = Elements.inverse;
+      log = Elements.log;
+      leaves_series = log_leaves_series;
+      act = Elements.act;
+      rotation_matrix = Elements.rotation_matrix;
+      normalize = Elements.normalize;
+      is_valid = Elements.is_valid;
+      jacobian_identity = Matrices.jacobian_identity;
+      adjoint = Matrices.adjoint;
+      inverse_jacobian = Matrices.inverse_jacobian;
+      compose_jacobian_self = Matrices.compose_jacobian_self;
+      act_jacobian_self = Matrices.act_jacobian_self;
+    }
+
+abbrev pub tangents : Manifold.Tangents Element Tangent (List (List Float)) (List Float)
+tangents =
+    record {
+      dim = 10;
+      tangent_of = Tangents.tangent_of;
+      zero = Tangents.zero;
+      exp = Tangents.exp;
+      leaves_series = exp_leaves_series;
+      hat = Algebra.hat;
+      generator = Algebra.generator;
+      small_adj = Algebra.small_adj;
+      lie_bracket = Algebra.lie_bracket;
+      normalize = Tangents.normalize;
+      normalized = Tangents.normalized;
+    }

@@ -1,2 +1,0 @@
-pub mod Finite
-pub mod Outcomes

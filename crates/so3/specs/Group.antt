@@ -1,0 +1,59 @@
+-- SO(3) as a group with its tangents. Definitions only.
+use Rattle.std.specs.Prelude.{Bool, ◌||◌}
+use Rattle.manifold.specs.Answers as Answers
+use Rattle.manifold.specs.Group as Manifold
+use Rattle.linear.specs.Matrices as Matrices
+use Rattle.linear.specs.declared.Mat3.{Mat3}
+use Rattle.so3.specs.Elements as Elements
+use Rattle.so3.specs.Tangents as Tangents
+use Rattle.so3.specs.declared.Element.{Element}
+use Rattle.so3.specs.declared.Tangent.{Tangent}
+
+-- log tests the half angle
+unfoldable pub log_leaves_series : Element → Bool
+log_leaves_series a = Answers.leaves_series (Elements.sin_angle_squared a)
+
+-- exp and the Jacobians test the squared angle
+unfoldable pub exp_leaves_series : Tangent → Bool
+exp_leaves_series t = Answers.leaves_series (Tangents.theta_squared t)
+
+-- log's Jacobian tests the squared angle of log's answer as well
+unfoldable pub log_jacobian_leaves_series : Element → Bool
+log_jacobian_leaves_series a = exp_leaves_series (Elements.log a) || log_leaves_series a
+
+abbrev pub group : Manifold.Group Element Tangent Mat3 Mat3
+group =
+    record {
+      dim = 4;
+      quaternion = 0;
+      element_of = Elements.element_of;
+      compose = Elements.compose;
+      inverse = Elements.inverse;
+      log = Elements.log;
+      leaves_series = log_leaves_series;
+      act = Elements.act;
+      rotation_matrix = Elements.rotation_matrix;
+      normalize = Elements.normalize;
+      is_valid = Elements.is_valid;
+      jacobian_identity = Matrices.identity;
+      adjoint = Elements.adjoint;
+      inverse_jacobian = Elements.inverse_jacobian;
+      compose_jacobian_self = Elements.compose_jacobian_self;
+      act_jacobian_self = Elements.act_jacobian_self;
+    }
+
+abbrev pub tangents : Manifold.Tangents Element Tangent Mat3 Mat3
+tangents =
+    record {
+      dim = 3;
+      tangent_of = Tangents.tangent_of;
+      zero = Tangents.zero;
+      exp = Tangents.exp;
+      leaves_series = exp_leaves_series;
+      hat = Tangents.hat;
+      generator = Tangents.generator;
+      small_adj = Tangents.small_adj;
+      lie_bracket = Tangents.lie_bracket;
+      normalize = Tangents.normalize;
+      normalized = Tangents.normalized;
+    }
