@@ -8,7 +8,7 @@ ghost use Rattle.bench_lines.specs.Numbers as Numbers;
 use checks::Refusal;
 use std::io;
 
-// The number is what is printed, and so is yes or no.
+// The number is what is printed, and so is yes or no below.
 #[tactic(auto, unfolding(crate::specs::Numbers::number, checks::specs::Outcomes::outcome))]
 fn number<T: Copy>(answer: Result<T, Refusal>) -> u32
     ensures { result ≡ Numbers.number answer }
@@ -65,8 +65,7 @@ fn main(rt: HostRuntime) -> io::Result<()> {
     ];
     let n = number(manifold_blocks::log::<sgal3::Element>(&turned));
     println!(rt; "SGal3 log of (1, 2^-17, 0, 0): {n}")?;
-    let zeros = [0.0, 0.0, 0.0, 0.0, 0.0, 0.0, 0.0, 0.0, 0.0, 0.0, 0.0];
-    let n = number(sgal3_composition::inverse(&zeros));
+    let n = number(sgal3_composition::inverse(&[0.0; 11]));
     println!(rt; "inverse, all four zero: {n}")?;
     let nan = 0.0 / 0.0;
     let bad = [0.0, 0.0, 0.0, 2.0, 0.0, 0.0, 0.0, 0.0, 0.0, 0.0, nan];

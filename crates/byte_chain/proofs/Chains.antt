@@ -1,8 +1,8 @@
 -- The chain of byte blocks after a first block: of one block it is compose's answer, and after the identity's it is the chain's. Assumes nothing.
-use Prim.Native.Nat.{ℕ, ◌-◌, ◌/◌, ◌%◌, ◌≤◌, ◌<◌}
+use Prim.Native.Nat.{ℕ, ◌/◌, ◌<◌}
 use mathlib.Core.Path.{◌≡◌, refl, sym, ◌∙◌}
 use mathlib.Core.List.{List, [], ◌∷◌}
-use borrow.Author.Tests.{eq-eqb, ne_eqb, lt-ltb, le-ltb}
+use borrow.Author.Tests.{lt-ltb}
 use lib.Dec.{lit<}
 use lib.ListN.{length}
 use Rattle.std.proofs.lemmas.List.{append-nil}
@@ -14,9 +14,11 @@ use Rattle.law.specs.Galilean as Galilean
 use Rattle.float.specs.Exact.{count, abs}
 use Rattle.float.specs.Root.{isqrt, nearest_root, square_root}
 use Rattle.checks.specs.Checks as Checks
-use Rattle.checks.specs.Checks.{tolerance}
+use Rattle.checks.specs.Checks.{passed, tolerance, check_chain_length}
+use Rattle.checks.specs.declared.Refusal.{Refusal}
 use Rattle.checks.specs.declared.Refusal.TheVariants.{Length}
 use Rattle.words.specs.Word.{word_at, value_at}
+use Rattle.manifold.specs.Answers.{vector_at, quaternion_at}
 use Rattle.sgal3.specs.Elements as Elements
 use Rattle.element_bytes.specs.Bytes.{values_at}
 use Rattle.sgal3_composition.specs.Calls as Calls
@@ -44,22 +46,22 @@ identity_block =
     ∷ 0 ∷ 0 ∷ 0 ∷ 0 ∷ 0 ∷ 0 ∷ 0 ∷ 0 ∷ []
 
 identity-block : Calls.check_element (values_at 11 identity_block 0) tolerance ≡ Ok Elements.identity
-unfolding Calls.check_element Checks.check_param_block Checks.check_values Checks.check_length Checks.check_unit_quaternion Checks.check_norm Checks.norm_of Checks.all_finite Checks.tolerance values_at value_at word_at of_bits square_root nearest_root count isqrt units size add sub mul lt abs Elements.identity Elements.element_of Galilean.identity Vector.zero Quaternion.identity
+unfolding Calls.check_element Checks.check_param_block Checks.check_values Checks.check_length Checks.check_unit_quaternion Checks.check_norm Checks.norm_of Checks.all_finite Checks.tolerance values_at value_at word_at of_bits square_root nearest_root count isqrt units size add sub mul lt abs Elements.identity Elements.element_of vector_at quaternion_at Galilean.identity Vector.zero Quaternion.identity
 identity-block = refl
 
 pub after-identity : (n : ℕ) (s : List ℕ) → Steps.chain_after identity_block n s ≡ Blocks.chain_blocks n s
 unfolding Steps.chain_after Blocks.chain_blocks Calls.chain_blocks
 after-identity n s = rw identity-block
 
--- ---- the chain's lengths
+-- ---- the chain's length
 pub too_long : (most : ℕ) (s : List ℕ) → most < length s → Blocks.chain most s ≡ Err (Length most (length s))
-unfolding Blocks.chain
+unfolding Blocks.chain check_chain_length
 too_long most s h = rw (lt-ltb _ _ h)
 
-pub not-whole : (most : ℕ) (s : List ℕ) → length s ≤ most → (length s % 88 ≡ 0 → ⊥) → Blocks.chain most s ≡ Err (Length (length s - length s % 88) (length s))
+pub refused-chain : (most : ℕ) (s : List ℕ) (r : Refusal) → check_chain_length (length s) 88 most ≡ Err r → Blocks.chain most s ≡ Err r
 unfolding Blocks.chain
-not-whole most s h e = rw (le-ltb _ _ h, ne_eqb _ _ e)
+refused-chain most s r e = rw e
 
-pub whole-blocks : (most : ℕ) (s : List ℕ) → length s ≤ most → length s % 88 ≡ 0 → Blocks.chain most s ≡ Blocks.chain_blocks (length s / 88) s
+pub whole-blocks : (most : ℕ) (s : List ℕ) → check_chain_length (length s) 88 most ≡ passed → Blocks.chain most s ≡ Blocks.chain_blocks (length s / 88) s
 unfolding Blocks.chain
-whole-blocks most s h e = rw (le-ltb _ _ h, eq-eqb _ _ e)
+whole-blocks most s e = rw e

@@ -1,6 +1,6 @@
 -- Byte blocks: an element of 88 little-endian bytes, and a chain of them. Definitions only.
-use Rattle.std.specs.Prelude.{ℕ, ◌-◌, ◌*◌, ◌/◌, ◌%◌, cond, List, eqb, ltb, length, Err}
-use Rattle.checks.specs.Checks.{tolerance}
+use Rattle.std.specs.Prelude.{ℕ, ◌*◌, ◌/◌, cond, List, eqb, length, Err}
+use Rattle.checks.specs.Checks.{and_then, tolerance, check_chain_length}
 use Rattle.checks.specs.declared.Refusal.TheVariants.{Length}
 use Rattle.element_bytes.specs.Bytes.{values_at}
 use Rattle.sgal3_composition.specs.Calls as Calls
@@ -14,8 +14,6 @@ check_block s = cond (eqb (length s) 88) (Calls.check_element (values_at 11 s 0)
 unfoldable pub chain_blocks : ℕ → List ℕ → Answer
 chain_blocks n s = Calls.chain_blocks n (values_at (n * 11) s 0)
 
--- at most `most` bytes, and whole blocks; the length expected is the largest permitted one not above the actual
+-- at most `most` bytes
 unfoldable pub chain : ℕ → List ℕ → Answer
-chain most s =
-    cond (ltb most (length s)) (Err (Length most (length s)))
-    (cond (eqb (length s % 88) 0) (chain_blocks (length s / 88) s) (Err (Length (length s - length s % 88) (length s))))
+chain most s = and_then (check_chain_length (length s) 88 most) (λ _. chain_blocks (length s / 88) s)

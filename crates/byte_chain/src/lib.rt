@@ -48,7 +48,7 @@ fn compose_blocks(start: Element, s: &[u8]) -> Result<Element, Refusal>
     Ok(held)
 }
 
-// The byte blocks of s, composed one after the other with the block `first`.
+// The byte blocks of s, composed one after the other with the block `first`, a slice as those are.
 #[tactic(auto, using(crate::proofs::ByteBlocks::first))]
 pub fn chain_blocks(first: &[u8], s: &[u8]) -> Result<Element, Refusal>
     requires { length first.now ≡ 88 }
@@ -60,24 +60,11 @@ pub fn chain_blocks(first: &[u8], s: &[u8]) -> Result<Element, Refusal>
     compose_blocks(element_bytes::element(first, 0), s)
 }
 
-// The chain of at most `most` bytes of blocks. The lengths are tested in bytes, as those of `sgal3_composition::chain` are in values: the figures of a
-// refusal are, and each definition has its own.
+// The chain of at most `most` bytes of blocks.
 #[tactic(auto, unfolding(crate::specs::Blocks::chain, crate::specs::Blocks::chain_blocks, crate::specs::Steps::chain_on, sgal3_composition::specs::Calls::chain_blocks))]
 pub fn chain(s: &[u8], most: usize) -> Result<Element, Refusal>
     ensures { result ≡ Blocks.chain most s.now }
 {
-    let actual = s.len();
-    if most < actual {
-        return Err(Refusal::Length {
-            expected: most,
-            actual,
-        });
-    }
-    if actual % 88 != 0 {
-        return Err(Refusal::Length {
-            expected: actual - actual % 88,
-            actual,
-        });
-    }
+    checks::check_chain_length(s.len(), 88, most)?;
     compose_blocks(Element::identity(), s)
 }

@@ -1,4 +1,5 @@
-// The chain of each file that is named as an argument: its name, and the report.
+// The chain of each file that is named as an argument: its name, and the report. A function for this program and `chain` would take the buffers, the runtime
+// and the name for a message, and be no shorter.
 #![tactic(auto)]
 
 use std::env::FillError;

@@ -22,7 +22,8 @@ first-passed : {x : ⊤} (a b : Check) → and_then a (λ _. b) ≡ Ok x → a �
 first-passed (Ok y) b e = refl
 first-passed (Err r) b e = never e
 
-second-passed : {x : ⊤} (a b : Check) → and_then a (λ _. b) ≡ Ok x → b ≡ passed
+-- what is answered after a check is what follows it
+pub second-passed : {A B : Type 0} {x : B} (a : Result A Refusal) (b : Result B Refusal) → and_then a (λ _. b) ≡ Ok x → b ≡ Ok x
 second-passed (Ok y) b e = e
 second-passed (Err r) b e = never e
 

@@ -1,5 +1,5 @@
 -- The checks of a parameter block, in the paper's order: length, all values, the quaternion's norm. Definitions only.
-use Rattle.std.specs.Prelude.{ℕ, Bool, true, ◌&&◌, cond, List, [], ◌∷◌, eqb, length, get_or, take, drop, Result, Ok, Err, ⊤, Float}
+use Rattle.std.specs.Prelude.{ℕ, Bool, true, ◌&&◌, ◌-◌, ◌%◌, cond, List, [], ◌∷◌, eqb, ltb, length, get_or, take, drop, Result, Ok, Err, ⊤, Float}
 use Rattle.std.specs.Float.{nan, binary64}
 use Rattle.std.specs.Float.Ieee.{of_bits, add, sub, mul, lt}
 use Rattle.std.specs.Float.Ieee.Scale.{finite}
@@ -59,6 +59,12 @@ check_unit_quaternion q tolerance = check_norm (norm_of q) tolerance
 
 unfoldable pub check_length : List Float → ℕ → Check
 check_length s len = cond (eqb (length s) len) passed (Err (Length len (length s)))
+
+-- how long a chain is: at most `most`, and whole blocks; the length expected is the largest permitted one not above the actual
+unfoldable pub check_chain_length : ℕ → ℕ → ℕ → Check
+check_chain_length actual block most =
+    cond (ltb most actual) (Err (Length most actual))
+    (cond (eqb (actual % block) 0) passed (Err (Length (actual - actual % block) actual)))
 
 -- a block of len values
 unfoldable pub check_values : List Float → ℕ → Check

@@ -1,7 +1,7 @@
 // Refusals with their numbers and figures, and the checks of a parameter block (util.rs, error.rs).
 #![tactic(auto)]
 
-ghost use Rattle.std.specs.Prelude.{◌≡◌, true, ◌+◌, ◌≤◌, length};
+ghost use Rattle.std.specs.Prelude.{◌≡◌, true, ◌+◌, ◌<◌, ◌≤◌, length};
 ghost use Rattle.float.specs.Root.{square_root};
 ghost use Rattle.checks.specs.Refusals as Refusals;
 ghost use Rattle.checks.specs.Checks as Checks;
@@ -128,6 +128,27 @@ pub fn check_length(s: &[f64], len: usize) -> Result<(), Refusal>
     if actual != len {
         return Err(Refusal::Length {
             expected: len,
+            actual,
+        });
+    }
+    Ok(())
+}
+
+// A chain's length, in values or in bytes as its block's is: at most `most`, and whole blocks.
+#[tactic(auto, unfolding(crate::specs::Checks::check_chain_length))]
+pub fn check_chain_length(actual: usize, block: usize, most: usize) -> Result<(), Refusal>
+    requires { 0 < block }
+    ensures { result ≡ Checks.check_chain_length actual block most }
+{
+    if most < actual {
+        return Err(Refusal::Length {
+            expected: most,
+            actual,
+        });
+    }
+    if actual % block != 0 {
+        return Err(Refusal::Length {
+            expected: actual - actual % block,
             actual,
         });
     }

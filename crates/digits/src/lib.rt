@@ -41,6 +41,7 @@ pub fn put_hex(out: &mut [u8], at: usize, n: u64, case: Case)
     }
 }
 
+// That a number is below 100 is a clause, here and below, since every line computes with the bare number.
 #[tactic(auto, unfolding(crate::specs::Digits::tens))]
 fn tens(k: u64) -> u8
     requires { k < 100 }

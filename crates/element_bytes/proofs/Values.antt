@@ -10,6 +10,7 @@ use lib.Ieee.Scale.{finite}
 use Rattle.std.proofs.lemmas.List.{get_or_append_left, get_or-append_right}
 use Rattle.checks.specs.Checks.{all_finite}
 use Rattle.words.specs.Word.{word_at, value_at}
+use Rattle.manifold.specs.Answers.{vector_at, quaternion_at}
 use Rattle.sgal3.specs.Elements.{coeffs, element_of}
 use Rattle.element_bytes.specs.Bytes.{values_at}
 
@@ -97,5 +98,5 @@ none_left n s start i h = let e : n - i ≡ 0 = omega arith in rw e
 
 -- the values of a block's element are the block's own
 pub element-values : (s : List ℕ) (i : ℕ) → coeffs (element_of (values_at 11 s i)) ≡ values_at 11 s i
-unfolding coeffs element_of
+unfolding coeffs element_of vector_at quaternion_at
 element-values s i = ap (λ (v : List Float). coeffs (element_of v)) (eleven s i) ∙ sym (eleven s i)

@@ -29,7 +29,8 @@ fn all_finite(s: &[u8], start: usize) -> bool
 // The parts of a block are a slice and a place, as in words, and that their values are finite is a clause: a type for each part would be opened at
 // once.
 
-// The vector of the 24 bytes from at on.
+// The vector of the 24 bytes from at on. It and the quaternion are as `manifold` has them of values: a function of both would take the reader of a value, whose
+// contract its caller would have to state.
 #[tactic(auto, unfolding(crate::specs::Steps::vector_at, crate::specs::Bytes::values_at, checks::specs::Checks::all_finite))]
 fn vector(s: &[u8], at: usize) -> Vec3
     requires at_in_bounds { at + 24 ≤ length s.now }
@@ -59,7 +60,7 @@ fn quaternion(s: &[u8], at: usize) -> Quaternion
 }
 
 // The element of the 88 bytes from at on, whose values are finite.
-#[tactic(auto, unfolding(sgal3::specs::Elements::element_of, crate::specs::Steps::vector_at, crate::specs::Steps::quaternion_at, crate::specs::Bytes::values_at, checks::specs::Checks::all_finite))]
+#[tactic(auto, unfolding(sgal3::specs::Elements::element_of, manifold::specs::Answers::vector_at, manifold::specs::Answers::quaternion_at, crate::specs::Steps::vector_at, crate::specs::Steps::quaternion_at, crate::specs::Bytes::values_at, checks::specs::Checks::all_finite))]
 pub fn element(s: &[u8], at: usize) -> Element
     requires at_in_bounds { at + 88 ≤ length s.now }
     requires at_value { all_finite (Bytes.values_at 11 s.now at) ≡ true }
@@ -78,7 +79,7 @@ pub fn element(s: &[u8], at: usize) -> Element
 
 // The check of the 88 bytes from at on. It does not hand on the values: its callers read them where they use them, which is faster
 // than through memory.
-#[tactic(auto, unfolding(checks::specs::Checks::check_param_block, checks::specs::Checks::check_values, checks::specs::Checks::check_length, crate::specs::Bytes::values_at, sgal3::specs::Elements::coeffs, sgal3::specs::Elements::element_of))]
+#[tactic(auto, unfolding(checks::specs::Checks::check_param_block, checks::specs::Checks::check_values, checks::specs::Checks::check_length, crate::specs::Bytes::values_at, sgal3::specs::Elements::coeffs, sgal3::specs::Elements::element_of, manifold::specs::Answers::vector_at, manifold::specs::Answers::quaternion_at))]
 pub fn check_values(s: &[u8], at: usize) -> Result<(), Refusal>
     requires { at + 88 ≤ length s.now }
     ensures { result ≡ check_param_block (Bytes.values_at 11 s.now at) 11 3 tolerance }

@@ -1,11 +1,12 @@
 // A request on the Galilean group answered: the calls 70 to 111 by their numbers, and the outcome of each as bytes. None where there is no such
-// call. The numbers are the format's: an enum or a table of the calls would list them a second time. In parts, as in `rotation_requests`.
+// call. The numbers are the format's: an enum or a table of the calls would list them a second time. In parts, and not shared with
+// `rotation_requests`: the reasons stand there.
 #![tactic(auto)]
 
 ghost use Rattle.outcomes.specs.Outcomes as Outcomes;
 ghost use Rattle.galilean_requests.specs.Requests as Requests;
 
-use manifold::Tangent as _;
+use manifold::{LieGroup, Tangent as _};
 use outcomes::Request;
 use sgal3::{Element, Tangent};
 

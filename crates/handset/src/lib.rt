@@ -11,7 +11,8 @@ use checks::Refusal;
 use manifold::LieGroup;
 use sgal3::Element;
 
-// 0 for an answer, or the refusal's number. An element is stored, and a refusal leaves out as it is.
+// 0 for an answer, or the refusal's number. An element is stored, and a refusal leaves out as it is. That out has 88 bytes is a clause, since C's blocks are
+// slices.
 #[tactic(auto, unfolding(crate::specs::Steps::Finite), using(crate::proofs::Outputs::stored))]
 fn finish(answer: Result<Element, Refusal>, out: &mut [u8]) -> u32
     requires out_len { length out.old ≡ 88 }
@@ -52,7 +53,8 @@ fn store_chain(first: &[u8], blocks: &[u8], out: &mut [u8]) -> u32
     finish(byte_chain::chain_blocks(one, s), out)
 }
 
-// The entries return the scope's numbers, as the C interface has them: 1 for a wrong length, before anything is read.
+// The entries return the scope's numbers, as the C interface has them: 1 for a wrong length, before anything is read. A refusal made to be asked for its
+// number would be no plainer.
 #[tactic(auto, using(crate::proofs::Outputs::firsts))]
 pub fn sgal3_compose(left: &[u8], right: &[u8], out: &mut [u8]) -> u32
     ensures { Entries.Answered (Entries.compose left.now right.now out.old) out.old out.new result }
@@ -109,12 +111,8 @@ pub fn sgal3_chain(blocks: &[u8], out: &mut [u8]) -> u32
     if out.len() != 88 {
         return 1;
     }
-    let actual = blocks.len();
-    if 360448 < actual {
-        return 1;
-    }
-    if actual % 88 != 0 {
-        return 1;
+    if let Err(r) = checks::check_chain_length(blocks.len(), 88, 360448) {
+        return r.number();
     }
     // the identity's bytes: 1.0 for the quaternion's w
     store_chain(

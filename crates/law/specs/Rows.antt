@@ -13,7 +13,7 @@ module _ {A : Type 0} (o : Arithmetic A) where
   open o use {zero as 𝟘, add as ◌⊕◌, sub as ◌⊖◌, mul as ◌⊗◌, neg as ⊝}
 
   -- s and the products of the places
-  abbrev dot_from : A → List A → List A → A
+  abbrev pub dot_from : A → List A → List A → A
   dot_from s [] bs = s
   dot_from s (a ∷ as') [] = s
   dot_from s (a ∷ as') (b ∷ bs) = dot_from (s ⊕ a ⊗ b) as' bs

@@ -5,6 +5,10 @@ use Rattle.law.specs.Matrix as Law
 use Rattle.linear.specs.declared.Vec3.{Vec3}
 use Rattle.linear.specs.declared.Mat3.{Mat3}
 use Rattle.linear.specs.Records.{vector, vec3, matrix, mat3}
+use Rattle.linear.specs.Vectors as Vectors
+
+unfoldable pub zero : Mat3
+zero = record { row0 = Vectors.zero; row1 = Vectors.zero; row2 = Vectors.zero }
 
 unfoldable pub identity : Mat3
 identity = mat3 (Law.identity rounded)

@@ -14,7 +14,8 @@ pub struct Vec3 {
     pub z: f64,
 }
 
-// Methods and not std's operators, so that each contract stands beside its formula; add and sub are alike but for theirs.
+// Methods and not std's operators, so that each contract stands beside its formula. Add and sub, and scale and divide, of a quaternion too, are alike but
+// for an operator: one function with the operator as a parameter would have a contract that its caller has to state.
 impl Vec3 {
     #[tactic(auto, unfolding(crate::specs::Vectors::zero, law::specs::Vector::zero))]
     pub fn zero() -> Vec3
@@ -249,6 +250,17 @@ pub struct Mat3 {
 }
 
 impl Mat3 {
+    #[tactic(auto, unfolding(crate::specs::Matrices::zero))]
+    pub fn zero() -> Mat3
+        ensures { result ≡ Matrices.zero }
+    {
+        Mat3 {
+            row0: Vec3::zero(),
+            row1: Vec3::zero(),
+            row2: Vec3::zero(),
+        }
+    }
+
     #[tactic(auto, unfolding(crate::specs::Matrices::identity, law::specs::Matrix::identity))]
     pub fn identity() -> Mat3
         ensures { result ≡ Matrices.identity }
@@ -296,7 +308,7 @@ impl Mat3 {
         }
     }
 
-    // Add and sub are alike but for the operation of the rows, as those of vectors are.
+    // Add and sub are alike but for the operation of the rows, as those of vectors are, and two for the same reason.
     #[tactic(auto, unfolding(crate::specs::Matrices::add, crate::specs::Vectors::add, law::specs::Matrix::add))]
     pub fn add(self, other: Mat3) -> Mat3
         ensures { result ≡ Matrices.add self other }

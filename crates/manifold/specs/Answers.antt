@@ -6,11 +6,16 @@ use Rattle.checks.specs.Checks.{Check, passed, all_finite}
 use Rattle.checks.specs.declared.Refusal.{Refusal}
 use Rattle.checks.specs.declared.Refusal.TheVariants.{Turn, Overflow}
 use Rattle.linear.specs.declared.Vec3.{Vec3}
+use Rattle.linear.specs.declared.Quaternion.{Quaternion}
 use Rattle.linear.specs.declared.Mat3.{Mat3}
 
 -- the three values from place i on
 unfoldable pub vector_at : List Float → ℕ → Vec3
 vector_at s i = record { x = get_or s i nan; y = get_or s (i + 1) nan; z = get_or s (i + 2) nan }
+
+-- w, x, y, z from place i on
+unfoldable pub quaternion_at : List Float → ℕ → Quaternion
+quaternion_at s i = record { w = get_or s i nan; x = get_or s (i + 1) nan; y = get_or s (i + 2) nan; z = get_or s (i + 3) nan }
 
 abbrev pub vector_values : Vec3 → List Float
 vector_values v = v.x ∷ v.y ∷ v.z ∷ []

@@ -12,6 +12,7 @@ pub record Group (G T J P : Type 0) : Type 0 where
   pub dim : ℕ
   pub quaternion : ℕ
   pub element_of : List Float → G
+  pub identity : G
   pub compose : G → G → G
   pub inverse : G → G
   pub log : G → T

@@ -11,7 +11,7 @@ ghost use Rattle.manifold.specs.Operations as Operations;
 ghost use Rattle.sgal3_rows.specs.TenRows as TenRows;
 
 use checks::Refusal;
-use linear::{Mat3, Vec3};
+use linear::{Mat3, Quaternion, Vec3};
 
 // ---- What is answered
 
@@ -36,11 +36,41 @@ pub fn vector_at(s: &[f64], i: usize) -> Vec3
     }
 }
 
+// The quaternion w, x, y, z of the four values from place i on.
+#[tactic(auto, unfolding(crate::specs::Answers::quaternion_at))]
+pub fn quaternion_at(s: &[f64], i: usize) -> Quaternion
+    requires { i + 4 ≤ length s.now }
+    ensures { result ≡ Answers.quaternion_at s.now i }
+{
+    Quaternion {
+        w: s[i],
+        x: s[i + 1],
+        y: s[i + 2],
+        z: s[i + 3],
+    }
+}
+
+pub fn vector_values(v: Vec3) -> [f64; 3]
+    ensures { result ≡ Answers.vector_values v }
+{
+    [v.x, v.y, v.z]
+}
+
+// By row.
+pub fn matrix_values(m: Mat3) -> [f64; 9]
+    ensures { result ≡ Answers.matrix_values m }
+{
+    let a = m.row0;
+    let b = m.row1;
+    let c = m.row2;
+    [a.x, a.y, a.z, b.x, b.y, b.z, c.x, c.y, c.z]
+}
+
 impl Values for Vec3 {
     ghost values = { Answers.vector_values };
 
     fn is_finite(&self) -> bool {
-        checks::all_finite(&[self.x, self.y, self.z])
+        checks::all_finite(&vector_values(*self))
     }
 }
 
@@ -48,10 +78,7 @@ impl Values for Mat3 {
     ghost values = { Answers.matrix_values };
 
     fn is_finite(&self) -> bool {
-        let a = self.row0;
-        let b = self.row1;
-        let c = self.row2;
-        checks::all_finite(&[a.x, a.y, a.z, b.x, b.y, b.z, c.x, c.y, c.z])
+        checks::all_finite(&matrix_values(*self))
     }
 }
 
@@ -238,6 +265,9 @@ pub trait LieGroup: Values {
         Self::validate_params(s)?;
         Ok(Self::element_of(s))
     }
+
+    fn identity() -> Self
+        ensures { result ≡ group.identity };
 
     fn compose(self, other: Self) -> Self
         ensures { result ≡ group.compose self other };

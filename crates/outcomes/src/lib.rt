@@ -180,11 +180,10 @@ impl ToWords for Vec3 {
     ghost ZEROS = { 0 };
 
     fn store(&self, out: &mut [u8; 832]) {
-        put_values(out, 32, &[self.x, self.y, self.z]);
+        put_values(out, 32, &manifold::vector_values(*self));
     }
 }
 
-// By row.
 impl ToWords for Mat3 {
     const COUNT: usize = 9;
 
@@ -195,10 +194,7 @@ impl ToWords for Mat3 {
     ghost ZEROS = { 9 };
 
     fn store(&self, out: &mut [u8; 832]) {
-        let a = self.row0;
-        let b = self.row1;
-        let c = self.row2;
-        put_values(out, 32, &[a.x, a.y, a.z, b.x, b.y, b.z, c.x, c.y, c.z]);
+        put_values(out, 32, &manifold::matrix_values(*self));
     }
 }
 
@@ -231,6 +227,7 @@ impl ToWords for [[f64; 10]; 10] {
     }
 }
 
+// Elements and tangents have no trait in common that gives an array of their values, since its length would be a constant of that trait.
 impl ToWords for so3::Element {
     const COUNT: usize = 4;
 
@@ -240,10 +237,8 @@ impl ToWords for so3::Element {
 
     ghost ZEROS = { 0 };
 
-    #[tactic(auto, unfolding(so3::specs::Elements::values))]
     fn store(&self, out: &mut [u8; 832]) {
-        let q = self.params;
-        put_values(out, 32, &[q.w, q.x, q.y, q.z]);
+        put_values(out, 32, &self.coeffs());
     }
 }
 
@@ -262,7 +257,6 @@ impl ToWords for so3::Tangent {
     }
 }
 
-// Elements and tangents have no trait in common that gives an array of their values, since its length would be a constant of the trait's.
 impl ToWords for sgal3::Element {
     const COUNT: usize = 11;
 

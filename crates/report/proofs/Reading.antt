@@ -4,20 +4,20 @@ use mathlib.Core.Path.{◌≡◌, refl, sym, ap, ◌∙◌}
 use mathlib.Core.Bool.{Bool, true, false}
 use mathlib.Core.List.{List}
 use native.Mathlib.Omega.{arith}
-use borrow.Author.Tests.{lt-ltb, ltb-true, ltb-false}
+use borrow.Author.Tests.{ltb-true, ltb-false}
 use lib.Dec.{ltb}
 use lib.ListN.{length, take}
 use lib.Seq.{take_all, length-take-le}
 use Rattle.checks.specs.Refusals.{number}
 use Rattle.checks.specs.declared.Refusal.TheVariants.{Length}
-use Rattle.byte_chain.specs.Blocks as Blocks
+use Rattle.byte_chain.proofs.Chains as Chains
 use Rattle.report_lines.specs.Lines.{refusal}
 use Rattle.report.specs.Text.{report_of}
 use Rattle.report.proofs.Printed.{refused-text}
 
 too_long : (s : List ℕ) → 65472 < length s → report_of s ≡ refusal 1
-unfolding report_of Blocks.chain number
-too_long s h = rw (lt-ltb _ _ h) (refused-text (Length 65472 (length s)))
+unfolding report_of number
+too_long s h = rw (Chains.too_long 65472 s h) (refused-text (Length 65472 (length s)))
 
 -- whatever number of bytes above the longest chain's is read
 pub enough : (m : ℕ) (s : List ℕ) → 65472 < m → report_of (take m s) ≡ report_of s

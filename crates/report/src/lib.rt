@@ -8,8 +8,7 @@ ghost use Rattle.report.specs.Text as Text;
 use checks::Refusal;
 use sgal3::Element;
 
-fn put_answer(out: &mut [u8], answer: Result<Element, Refusal>) -> usize
-    requires { 220 ≤ length out.old }
+fn put_answer(out: &mut [u8; 220], answer: Result<Element, Refusal>) -> usize
     ensures value { result ≡ length (Text.text answer) }
     ensures out_after { out.new ≡ sets out.old 0 (Text.text answer) }
 {

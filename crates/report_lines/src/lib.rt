@@ -1,5 +1,5 @@
 // The lines of a report, as bytes of a slice: one for each value, or the one of a refusal. By hand, as in digits, into the caller's buffer: there is
-// no heap.
+// no heap. A slice of 220 bytes or more: an array of 220 would ask more of callers.
 #![tactic(auto)]
 
 ghost use Rattle.std.specs.Prelude.{◌≡◌, ◌+◌, ◌<◌, ◌≤◌, length};

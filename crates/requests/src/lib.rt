@@ -1,5 +1,6 @@
 // A request answered: every public call by its number, on blocks of values, and its outcome as bytes. None where there is no such call.
-// docs/TESTING.md has the numbers, which are the format's; each range of them has a crate of its own.
+// docs/TESTING.md has the numbers, which are the format's: an enum or a table of the calls would list them a second time, and functions of one type would
+// hide their contracts. Each range of them has a crate of its own. Calls that differ in their group alone, as 0 and 1, have numbers of their own.
 #![tactic(auto)]
 
 ghost use Rattle.outcomes.specs.Outcomes as Outcomes;

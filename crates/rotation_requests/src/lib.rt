@@ -6,7 +6,7 @@
 ghost use Rattle.outcomes.specs.Outcomes as Outcomes;
 ghost use Rattle.rotation_requests.specs.Requests as Requests;
 
-use manifold::Tangent as _;
+use manifold::{LieGroup, Tangent as _};
 use outcomes::Request;
 use so3::{Element, Tangent};
 

@@ -41,7 +41,7 @@ axis i =
 -- of place i of a tangent; the zero matrix from i = 10
 unfoldable pub generator : ℕ → List Float
 generator i =
-    cond (ltb i 3) (lie_algebra (So3.generator 3) (axis i) Vectors.zero rounded.zero)
-    (cond (ltb i 6) (lie_algebra (So3.generator 3) Vectors.zero (axis (i - 3)) rounded.zero)
-    (cond (eqb i 9) (lie_algebra (So3.generator 3) Vectors.zero Vectors.zero rounded.one)
+    cond (ltb i 3) (lie_algebra Linear.zero (axis i) Vectors.zero rounded.zero)
+    (cond (ltb i 6) (lie_algebra Linear.zero Vectors.zero (axis (i - 3)) rounded.zero)
+    (cond (eqb i 9) (lie_algebra Linear.zero Vectors.zero Vectors.zero rounded.one)
     (lie_algebra (So3.generator (i - 6)) Vectors.zero Vectors.zero rounded.zero)))

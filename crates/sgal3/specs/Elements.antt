@@ -10,6 +10,7 @@ use Rattle.linear.specs.Records.{vector, vec3, quaternion, of_quaternion, mat3}
 use Rattle.linear.specs.declared.Vec3.{Vec3}
 use Rattle.linear.specs.declared.Quaternion.{Quaternion}
 use Rattle.linear.specs.declared.Mat3.{Mat3}
+use Rattle.manifold.specs.Answers.{vector_at, quaternion_at}
 use Rattle.so3.specs.Elements as So3
 use Rattle.so3.specs.declared.Element.{Element as So3-as-Element}
 use Rattle.sgal3.specs.Tangents.{of_tangent}
@@ -70,8 +71,8 @@ coeffs e =
 unfoldable pub element_of : List Float → Element
 element_of s =
     record {
-      translation = record { x = get_or s 0 nan; y = get_or s 1 nan; z = get_or s 2 nan };
-      rotation = record { w = get_or s 3 nan; x = get_or s 4 nan; y = get_or s 5 nan; z = get_or s 6 nan };
-      velocity = record { x = get_or s 7 nan; y = get_or s 8 nan; z = get_or s 9 nan };
+      translation = vector_at s 0;
+      rotation = quaternion_at s 3;
+      velocity = vector_at s 7;
       time = get_or s 10 nan;
     }

@@ -23,6 +23,7 @@ group =
       dim = 11;
       quaternion = 3;
       element_of = Elements.element_of;
+      identity = Elements.identity;
       compose = Elements.compose;
       inverse = Elements.inverse;
       log = Elements.log;

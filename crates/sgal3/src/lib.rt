@@ -31,18 +31,6 @@ pub struct Tangent {
 }
 
 impl Element {
-    #[tactic(auto, unfolding(crate::specs::Elements::identity, linear::specs::Vectors::zero, linear::specs::Quaternions::identity, law::specs::Galilean::identity))]
-    pub fn identity() -> Element
-        ensures { result ≡ Elements.identity }
-    {
-        Element {
-            translation: Vec3::zero(),
-            rotation: Quaternion::identity(),
-            velocity: Vec3::zero(),
-            time: 0.0,
-        }
-    }
-
     // The rotation, normalised once.
     #[tactic(auto, unfolding(crate::specs::Elements::rotation_impl, so3::specs::Elements::from_quaternion_wxyz, law::specs::Galilean::rotation_impl, law::specs::Rotation::unit_quaternion))]
     pub fn rotation_impl(self) -> so3::Element
@@ -132,18 +120,23 @@ impl LieGroup for Element {
         3
     }
 
-    #[tactic(auto, unfolding(crate::specs::Elements::element_of, manifold::specs::Answers::vector_at))]
+    #[tactic(auto, unfolding(crate::specs::Elements::element_of))]
     fn element_of(s: &[f64]) -> Element {
         Element {
             translation: manifold::vector_at(s, 0),
-            rotation: Quaternion {
-                w: s[3],
-                x: s[4],
-                y: s[5],
-                z: s[6],
-            },
+            rotation: manifold::quaternion_at(s, 3),
             velocity: manifold::vector_at(s, 7),
             time: s[10],
+        }
+    }
+
+    #[tactic(auto, unfolding(crate::specs::Elements::identity, linear::specs::Vectors::zero, linear::specs::Quaternions::identity, law::specs::Galilean::identity))]
+    fn identity() -> Element {
+        Element {
+            translation: Vec3::zero(),
+            rotation: Quaternion::identity(),
+            velocity: Vec3::zero(),
+            time: 0.0,
         }
     }
 
@@ -241,15 +234,10 @@ impl LieGroup for Element {
         self.rotation_impl().is_valid(tolerance)
     }
 
-    #[tactic(auto, unfolding(crate::specs::Matrices::jacobian_identity, sgal3_rows::specs::TenRows::by_blocks, linear::specs::Matrices::identity, linear::specs::Vectors::zero, law::specs::Galilean::jacobian_identity))]
+    #[tactic(auto, unfolding(crate::specs::Matrices::jacobian_identity, sgal3_rows::specs::TenRows::by_blocks, linear::specs::Matrices::identity, linear::specs::Matrices::zero, linear::specs::Vectors::zero, law::specs::Galilean::jacobian_identity))]
     fn jacobian_identity() -> [[f64; 10]; 10] {
-        let n = Vec3::zero();
-        let z = Mat3 {
-            row0: n,
-            row1: n,
-            row2: n,
-        };
-        sgal3_rows::by_blocks(Mat3::identity(), z, z, z, n, 1.0)
+        let z = Mat3::zero();
+        sgal3_rows::by_blocks(Mat3::identity(), z, z, z, Vec3::zero(), 1.0)
     }
 
     fn adjoint(self) -> [[f64; 10]; 10] {
@@ -263,7 +251,7 @@ impl LieGroup for Element {
         sgal3_rows::by_blocks(r, b, c, nu_skew.mul(r), v, 1.0)
     }
 
-    // The adjoint is negated after it is filled.
+    // The adjoint is negated after it is filled. This and the next as in so3, where the reason stands.
     #[tactic(auto, unfolding(crate::specs::Matrices::inverse_jacobian, sgal3_rows::specs::TenRows::neg, crate::specs::Matrices::adjoint, law::specs::Galilean::inverse_jacobian))]
     fn inverse_jacobian(self) -> [[f64; 10]; 10] {
         self.adjoint().neg()
@@ -462,47 +450,27 @@ fn lie_algebra(h: Mat3, rho: Vec3, nu: Vec3, s: f64) -> [f64; 36]
 }
 
 // A row times a tangent: the first product first, the others added to it from the left.
-#[tactic(auto, unfolding(crate::specs::Algebra::dot, law::specs::Rows::dot, law::specs::Galilean::coeffs, law::specs::Galilean::row10))]
+#[tactic(auto, unfolding(crate::specs::Algebra::dot, law::specs::Rows::dot, law::specs::Galilean::coeffs, law::specs::Galilean::row10, crate::specs::Tangents::coeffs), using(crate::proofs::Dots::no_row, crate::proofs::Dots::no_column))]
 fn dot(r: [f64; 10], t: Tangent) -> f64
     ensures { result ≡ Algebra.dot r t }
 {
-    let rho = t.rho;
-    let nu = t.nu;
-    let theta = t.theta;
-    r[0] * rho.x
-        + r[1] * rho.y
-        + r[2] * rho.z
-        + r[3] * nu.x
-        + r[4] * nu.y
-        + r[5] * nu.z
-        + r[6] * theta.x
-        + r[7] * theta.y
-        + r[8] * theta.z
-        + r[9] * t.s
+    let c = t.coeffs();
+    let mut sum = r[0] * c[0];
+    for (a, b) in r[1..].iter().zip(&c[1..]) {
+        sum += *a * *b;
+    }
+    sum
 }
 
 #[tactic(auto, unfolding(crate::specs::Algebra::apply, crate::specs::Algebra::dot, law::specs::Galilean::apply_tangent, law::specs::Galilean::tangent, law::specs::Rows::apply))]
 pub fn apply(m: [[f64; 10]; 10], t: Tangent) -> Tangent
     ensures { result ≡ Algebra.apply m t }
 {
-    Tangent {
-        rho: Vec3 {
-            x: dot(m[0], t),
-            y: dot(m[1], t),
-            z: dot(m[2], t),
-        },
-        nu: Vec3 {
-            x: dot(m[3], t),
-            y: dot(m[4], t),
-            z: dot(m[5], t),
-        },
-        theta: Vec3 {
-            x: dot(m[6], t),
-            y: dot(m[7], t),
-            z: dot(m[8], t),
-        },
-        s: dot(m[9], t),
+    let mut values = [0.0; 10];
+    for (i, row) in m.iter().enumerate() {
+        values[i] = dot(*row, t);
     }
+    Tangent::tangent_of(&values)
 }
 
 // The unit vector along axis i; zero from i = 3.
@@ -519,20 +487,20 @@ fn axis(i: usize) -> Vec3
     }
 }
 
-// The generator of place i of a tangent; the zero matrix from i = 10. SO(3)'s generator(3) is the zero matrix.
+// The generator of place i of a tangent; the zero matrix from i = 10.
 #[tactic(auto, unfolding(crate::specs::Algebra::generator))]
 fn generator(i: usize) -> [f64; 36]
     ensures { result ≡ Algebra.generator i }
 {
     let n = Vec3::zero();
     if i < 3 {
-        return lie_algebra(so3::Tangent::generator(3), axis(i), n, 0.0);
+        return lie_algebra(Mat3::zero(), axis(i), n, 0.0);
     }
     if i < 6 {
-        return lie_algebra(so3::Tangent::generator(3), n, axis(i - 3), 0.0);
+        return lie_algebra(Mat3::zero(), n, axis(i - 3), 0.0);
     }
     if i == 9 {
-        return lie_algebra(so3::Tangent::generator(3), n, n, 1.0);
+        return lie_algebra(Mat3::zero(), n, n, 1.0);
     }
     lie_algebra(so3::Tangent::generator(i - 6), n, n, 0.0)
 }

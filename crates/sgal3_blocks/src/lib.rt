@@ -10,7 +10,7 @@ use linear::Vec3;
 use manifold::LieGroup;
 use sgal3::Element;
 
-// Of one field each, so translation and velocity are alike but for its name.
+// Translation and velocity are alike but for the field that each names; with the field as a parameter the contract would be the caller's to state.
 #[tactic(auto, unfolding(crate::specs::Calls::translation))]
 pub fn translation(block: &[f64]) -> Result<Vec3, Refusal>
     ensures { result ≡ Calls.translation block.now }

@@ -1,10 +1,10 @@
 -- The calls on blocks: compose, inverse and the chain, each with every refusal. Definitions only.
-use Rattle.std.specs.Prelude.{ℕ, zero, suc, ◌-◌, ◌/◌, ◌%◌, cond, List, T, eqb, ltb, length, get_or, take, drop, Result, Ok, Err, Float}
+use Rattle.std.specs.Prelude.{ℕ, zero, suc, ◌/◌, cond, List, T, length, get_or, take, drop, Result, Ok, Err, Float}
 use Rattle.std.specs.Float.{nan, binary64}
 use Rattle.std.specs.Float.Ieee.{fits}
-use Rattle.checks.specs.Checks.{and_then, both, tolerance, all_finite, check_param_block}
+use Rattle.checks.specs.Checks.{and_then, both, tolerance, all_finite, check_chain_length, check_param_block}
 use Rattle.checks.specs.declared.Refusal.{Refusal}
-use Rattle.checks.specs.declared.Refusal.TheVariants.{Length, Overflow}
+use Rattle.checks.specs.declared.Refusal.TheVariants.{Overflow}
 use Rattle.sgal3.specs.Elements as Elements
 use Rattle.sgal3.specs.declared.Element.{Element}
 
@@ -44,8 +44,6 @@ chain_from held (suc n) s = chain_from (compose_answers held (check_element (tak
 unfoldable pub chain_blocks : ℕ → List Float → Answer
 chain_blocks n s = chain_from (Ok Elements.identity) n s
 
--- at most 4,096 blocks, and whole ones; the length expected is the largest permitted one not above the actual
+-- at most 4,096 blocks
 unfoldable pub chain : List Float → Answer
-chain s =
-    cond (ltb 45056 (length s)) (Err (Length 45056 (length s)))
-    (cond (eqb (length s % 11) 0) (chain_blocks (length s / 11) s) (Err (Length (length s - length s % 11) (length s))))
+chain s = and_then (check_chain_length (length s) 11 45056) (λ _. chain_blocks (length s / 11) s)

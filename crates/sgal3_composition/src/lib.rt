@@ -50,18 +50,6 @@ pub fn chain(blocks: &[f64]) -> Result<Element, Refusal>
     ensures value { result ≡ Calls.chain blocks.now }
     ensures binary64 { Calls.Binary64 blocks.now }
 {
-    let actual = blocks.len();
-    if 45056 < actual {
-        return Err(Refusal::Length {
-            expected: 45056,
-            actual,
-        });
-    }
-    if actual % 11 != 0 {
-        return Err(Refusal::Length {
-            expected: actual - actual % 11,
-            actual,
-        });
-    }
+    checks::check_chain_length(blocks.len(), 11, 45056)?;
     chain_blocks(blocks)
 }

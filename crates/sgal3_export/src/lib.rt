@@ -10,7 +10,7 @@ ghost use Rattle.sgal3_rows.specs.TenRows as TenRows;
 
 use sgal3::{Element, Tangent};
 
-// Three names for C, which knows no type parameters.
+// Three names for C, which knows no type parameters; and into the caller's buffer, since there is no heap.
 
 #[unsafe(no_mangle)]
 pub extern "C" fn sgal3_exp(tangent: &[f64], out: &mut [u8; 832]) -> usize

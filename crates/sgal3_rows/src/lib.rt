@@ -33,32 +33,25 @@ pub fn by_blocks(r: Mat3, b: Mat3, c: Mat3, d: Mat3, u: Vec3, k: f64) -> [[f64; 
     [m0, m1, m2, m3, m4, m5, m6, m7, m8, m9]
 }
 
-// The two are written out: of `map` the library promises a call for each place, from which the list would have to be put together by a lemma.
 #[tactic(auto, unfolding(crate::specs::TenRows::neg_row))]
-fn neg_row(r: [f64; 10]) -> [f64; 10]
+fn neg_row(mut r: [f64; 10]) -> [f64; 10]
     ensures { result ≡ TenRows.neg_row r }
 {
-    [
-        -r[0], -r[1], -r[2], -r[3], -r[4], -r[5], -r[6], -r[7], -r[8], -r[9],
-    ]
+    for x in &mut r {
+        *x = -*x;
+    }
+    r
 }
 
 // Every place is negated, the empty ones to -0.
 #[tactic(auto, unfolding(crate::specs::TenRows::neg, crate::specs::TenRows::neg_row, law::specs::Rows::neg))]
-pub fn neg(m: [[f64; 10]; 10]) -> [[f64; 10]; 10]
+pub fn neg(mut m: [[f64; 10]; 10]) -> [[f64; 10]; 10]
     ensures { result ≡ TenRows.neg m }
 {
-    let m0 = neg_row(m[0]);
-    let m1 = neg_row(m[1]);
-    let m2 = neg_row(m[2]);
-    let m3 = neg_row(m[3]);
-    let m4 = neg_row(m[4]);
-    let m5 = neg_row(m[5]);
-    let m6 = neg_row(m[6]);
-    let m7 = neg_row(m[7]);
-    let m8 = neg_row(m[8]);
-    let m9 = neg_row(m[9]);
-    [m0, m1, m2, m3, m4, m5, m6, m7, m8, m9]
+    for row in &mut m {
+        *row = neg_row(*row);
+    }
+    m
 }
 
 // Row by row: most matrices are answered, and then no row ends the loop.

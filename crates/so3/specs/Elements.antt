@@ -1,6 +1,6 @@
 -- Elements of SO(3): the formulas of the group at the rounded operations. Definitions only.
-use Rattle.std.specs.Prelude.{Bool, false, cond, List, [], ◌∷◌, get_or, Float}
-use Rattle.std.specs.Float.{nan, binary64}
+use Rattle.std.specs.Prelude.{Bool, false, cond, List, [], ◌∷◌, Float}
+use Rattle.std.specs.Float.{binary64}
 use Rattle.std.specs.Float.Ieee.{sub, neg, lt}
 use Rattle.std.specs.Float.Ieee.Scale.{finite}
 use Rattle.float.specs.Exact.{abs}
@@ -14,6 +14,7 @@ use Rattle.linear.specs.Records.{vector, vec3, quaternion, of_quaternion, mat3}
 use Rattle.linear.specs.declared.Vec3.{Vec3}
 use Rattle.linear.specs.declared.Quaternion.{Quaternion}
 use Rattle.linear.specs.declared.Mat3.{Mat3}
+use Rattle.manifold.specs.Answers.{quaternion_at}
 use Rattle.so3.specs.declared.Element.{Element}
 use Rattle.so3.specs.declared.Tangent.{Tangent}
 
@@ -29,7 +30,7 @@ values a = a.params.w ∷ a.params.x ∷ a.params.y ∷ a.params.z ∷ []
 
 -- a block's four values are kept as given
 unfoldable pub element_of : List Float → Element
-element_of s = record { params = record { w = get_or s 0 nan; x = get_or s 1 nan; y = get_or s 2 nan; z = get_or s 3 nan } }
+element_of s = record { params = quaternion_at s 0 }
 
 unfoldable pub identity : Element
 identity = of_element (Law-as-Quaternion.identity rounded)

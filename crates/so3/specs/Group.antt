@@ -27,6 +27,7 @@ group =
       dim = 4;
       quaternion = 0;
       element_of = Elements.element_of;
+      identity = Elements.identity;
       compose = Elements.compose;
       inverse = Elements.inverse;
       log = Elements.log;

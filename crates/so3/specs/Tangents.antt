@@ -8,6 +8,7 @@ use Rattle.law.specs.Matrix as Law-as-Matrix
 use Rattle.law.specs.Rotation as Law
 use Rattle.law.specs.Series as Series
 use Rattle.linear.specs.Records.{vector, vec3, of_quaternion, mat3}
+use Rattle.linear.specs.Matrices as Matrices
 use Rattle.manifold.specs.Answers.{vector_at, vector_values}
 use Rattle.linear.specs.declared.Vec3.{Vec3}
 use Rattle.linear.specs.declared.Mat3.{Mat3}
@@ -100,4 +101,4 @@ about_z = record { row0 = row 𝟘 -𝟙 𝟘; row1 = row 𝟙 𝟘 𝟘; row2 =
 -- of turns about axis i; the zero matrix from i = 3
 unfoldable pub generator : ℕ → Mat3
 generator i =
-    cond (eqb i 0) about_x (cond (eqb i 1) about_y (cond (eqb i 2) about_z (record { row0 = row 𝟘 𝟘 𝟘; row1 = row 𝟘 𝟘 𝟘; row2 = row 𝟘 𝟘 𝟘 })))
+    cond (eqb i 0) about_x (cond (eqb i 1) about_y (cond (eqb i 2) about_z Matrices.zero))

@@ -24,15 +24,6 @@ pub struct Tangent {
 }
 
 impl Element {
-    #[tactic(auto, unfolding(crate::specs::Elements::identity, linear::specs::Quaternions::identity))]
-    pub fn identity() -> Element
-        ensures { result ≡ Elements.identity }
-    {
-        Element {
-            params: Quaternion::identity(),
-        }
-    }
-
     // Kept as given.
     #[tactic(auto, unfolding(crate::specs::Elements::new))]
     pub fn new(quaternion: Quaternion) -> Element
@@ -50,6 +41,15 @@ impl Element {
         Element {
             params: q.normalize(),
         }
+    }
+
+    // Its four values w, x, y, z.
+    #[tactic(auto, unfolding(crate::specs::Elements::values))]
+    pub fn coeffs(self) -> [f64; 4]
+        ensures { result ≡ Elements.values self }
+    {
+        let q = self.params;
+        [q.w, q.x, q.y, q.z]
     }
 
     #[tactic(auto, unfolding(crate::specs::Elements::unit_quaternion, linear::specs::Quaternions::normalize, law::specs::Rotation::unit_quaternion))]
@@ -125,10 +125,8 @@ impl Element {
 impl Values for Element {
     ghost values = { Elements.values };
 
-    #[tactic(auto, unfolding(crate::specs::Elements::values))]
     fn is_finite(&self) -> bool {
-        let q = self.params;
-        checks::all_finite(&[q.w, q.x, q.y, q.z])
+        checks::all_finite(&self.coeffs())
     }
 }
 
@@ -161,12 +159,7 @@ impl LieGroup for Element {
     #[tactic(auto, unfolding(crate::specs::Elements::element_of))]
     fn element_of(s: &[f64]) -> Element {
         Element {
-            params: Quaternion {
-                w: s[0],
-                x: s[1],
-                y: s[2],
-                z: s[3],
-            },
+            params: manifold::quaternion_at(s, 0),
         }
     }
 
@@ -177,6 +170,13 @@ impl LieGroup for Element {
 
     fn jacobian_identity() -> Mat3 {
         Mat3::identity()
+    }
+
+    #[tactic(auto, unfolding(crate::specs::Elements::identity, linear::specs::Quaternions::identity))]
+    fn identity() -> Element {
+        Element {
+            params: Quaternion::identity(),
+        }
     }
 
     // A product is not normalised again.
@@ -234,6 +234,8 @@ impl LieGroup for Element {
     }
 
     // ---- Jacobians
+    // These two as in sgal3: each group's paper has its formulas, so each has its definition, and a trait's method for both would have to know that they
+    // agree.
     fn inverse_jacobian(self) -> Mat3 {
         self.adjoint().neg()
     }
@@ -388,7 +390,7 @@ impl manifold::Tangent for Tangent {
 }
 
 // ---- Generators: turns about an axis
-// Written out, as is the zero matrix below: the hat of a unit vector has -0 where these have +0.
+// Three constants, written out: the hat of a unit vector has -0 where these have +0.
 #[tactic(auto, unfolding(crate::specs::Tangents::about_x))]
 fn about_x() -> Mat3
     ensures { result ≡ Tangents.about_x }
@@ -459,7 +461,7 @@ fn about_z() -> Mat3
 }
 
 // The generator of turns about axis i; the zero matrix from i = 3.
-#[tactic(auto, unfolding(crate::specs::Tangents::generator, linear::specs::Vectors::zero, law::specs::Vector::zero))]
+#[tactic(auto, unfolding(crate::specs::Tangents::generator))]
 fn generator(i: usize) -> Mat3
     ensures { result ≡ Tangents.generator i }
 {
@@ -467,13 +469,6 @@ fn generator(i: usize) -> Mat3
         0 => about_x(),
         1 => about_y(),
         2 => about_z(),
-        _ => {
-            let zero = Vec3::zero();
-            Mat3 {
-                row0: zero,
-                row1: zero,
-                row2: zero,
-            }
-        }
+        _ => Mat3::zero(),
     }
 }

@@ -44,7 +44,7 @@ pub struct Tally {
 }
 
 impl Tally {
-    // No pair compared.
+    // No pair compared. Not Default: with facts in its type a struct can't derive it, and an impl by hand would be no shorter than this.
     pub fn new() -> Tally
         ensures compared { result.compared ≡ 0 }
         ensures different { result.different ≡ 0 }

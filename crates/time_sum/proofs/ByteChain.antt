@@ -1,10 +1,9 @@
 -- Demand 3 of the byte entry: the same promise of every byte chain that is not refused, with no hypothesis, since every eight bytes are a binary64. Assumes
 -- nothing.
-use Prim.Native.Nat.{ℕ, zero, suc, ◌+◌, ◌-◌, ◌*◌, ◌/◌, ◌%◌, ◌^◌, ◌≤◌}
+use Prim.Native.Nat.{ℕ, zero, suc, ◌+◌, ◌-◌, ◌*◌, ◌/◌, ◌^◌, ◌≤◌}
 use mathlib.Core.Path.{◌≡◌}
 use mathlib.Core.List.{List}
 use native.Mathlib.Nat.{le_trans, mul-le-mul_right}
-use lib.Dec.{ltb, eqb}
 use lib.IntN.{nat_abs, ◌-ℤ◌}
 use lib.ListN.{length}
 use lib.Ieee.{Float, binary64}
@@ -18,7 +17,7 @@ use Rattle.sgal3_composition.specs.Calls as Calls
 use Rattle.element_bytes.specs.Bytes.{values_at}
 use Rattle.byte_chain.specs.Blocks.{chain_blocks, chain}
 use Rattle.time_sum.specs.RunningSum.{blocks, exact_sum, magnitude_sum}
-use Rattle.time_sum.proofs.Times.{passed}
+use Rattle.checks.proofs.Passed.{second-passed}
 use Rattle.time_sum.proofs.TimeSum.{values-blocks, chained, one_less}
 
 values : (n : ℕ) (s : List ℕ) (at : ℕ) → Calls.Binary64 (values_at n s at)
@@ -32,7 +31,7 @@ values (suc n) s at = go (values n s (at + 8))
 
 whole : (most : ℕ) (s : List ℕ) (c : Element) → chain most s ≡ Ok c → chain_blocks (length s / 88) s ≡ Ok c
 unfolding chain
-whole most s c = passed (ltb most (length s)) (eqb (length s % 88) 0) _ _ _
+whole most s c = second-passed _ _
 
 -- the blocks of a byte chain, as values
 abbrev pub value_blocks : List ℕ → List (List Float)

@@ -1,11 +1,11 @@
 -- Demand 3: after any run of compose calls, and of any chain that is not refused, the composed time is within (n - 1) * M / 2 ^ 53 of the exact sum of the
 -- steps' times, for every n. Assumes nothing.
-use Prim.Native.Nat.{ℕ, zero, suc, ◌+◌, ◌-◌, ◌*◌, ◌/◌, ◌%◌, ◌^◌, ◌≤◌}
+use Prim.Native.Nat.{ℕ, zero, suc, ◌+◌, ◌-◌, ◌*◌, ◌/◌, ◌^◌, ◌≤◌}
 use mathlib.Core.Path.{◌≡◌, refl, sym, ap, ◌∙◌}
 use mathlib.Core.List.{List, [], ◌∷◌}
 use native.Mathlib.Nat.{le_trans, mul-le-mul_right, add-zero, zero-add, add_assoc, add-suc, suc-add}
 use native.Mathlib.Omega.{arith}
-use lib.Dec.{T, ltb, eqb}
+use lib.Dec.{T}
 use lib.IntN.{ℤ, pos, nat_abs, ◌+ℤ◌, ◌-ℤ◌, +ℤ_assoc, +ℤ_idl, +ℤ_idr}
 use lib.ListN.{length, take, drop}
 use lib.Ieee.{Float, binary64, add, fits}
@@ -21,7 +21,8 @@ use Rattle.sgal3_composition.specs.Calls.{Answer}
 use Rattle.sgal3.specs.declared.Element.{Element}
 use Rattle.time_sum.specs.RunningSum.{RunningSum, start, time_of, entered, after, Binary64, Within, blocks, exact_sum, magnitude_sum}
 use Rattle.time_sum.proofs.Bound.{Summed, starts, adds}
-use Rattle.time_sum.proofs.Times.{never, passed, composed, checked, own-time}
+use Rattle.checks.proofs.Passed.{second-passed}
+use Rattle.time_sum.proofs.Times.{never, composed, checked, own-time}
 
 -- ---- one composed step: the held element's time is t, the step's block is s
 takes : {n : ℕ} {S : ℤ} {M : ℕ} (held : Answer) (s : List Float) (a c : Element) → held ≡ Ok a
@@ -134,7 +135,7 @@ values-blocks (suc n) s f = (values-take 11 s f, values-blocks n (drop 11 s) (va
 -- ---- a chain that is not refused has whole blocks
 whole : (s : List Float) (c : Element) → Calls.chain s ≡ Ok c → Calls.chain_blocks (length s / 11) s ≡ Ok c
 unfolding Calls.chain
-whole s c = passed (ltb 45056 (length s)) (eqb (length s % 11) 0) _ _ _
+whole s c = second-passed _ _
 
 -- the same promise of every chain that is not refused: n is the number of its blocks
 pub chain-time-sum-sharp : (s : List Float) → Calls.Binary64 s → (c : Element) → Calls.chain s ≡ Ok c

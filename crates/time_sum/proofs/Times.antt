@@ -25,12 +25,6 @@ never {A} {r} {e} p = let z : ◌≡◌ {A = ℕ} 0 1 = cc in absurd (apart z)
     apart : ◌≡◌ {A = ℕ} 0 1 → ⊥
     apart z = omega arith
 
--- an answer behind two tests that refuse
-pub passed : (p q : Bool) (r s : Refusal) (answer : Answer) {e : Element} → cond p (Err r) (cond q answer (Err s)) ≡ Ok e → answer ≡ Ok e
-passed true q r s answer h = never h
-passed false true r s answer h = h
-passed false false r s answer h = never h
-
 same : {a b : Element} → ◌≡◌ {A = Answer} (Ok a) (Ok b) → a ≡ b
 same p = cc
 

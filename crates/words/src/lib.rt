@@ -10,7 +10,7 @@ ghost use Rattle.words.specs.Word.{joined, word_at, value_at, bytes_of};
 
 // A slice and a place, and not a slice of eight bytes, which each caller would have to cut out and show to be of that length.
 
-// The word at s[at..at + 8].
+// The word at s[at..at + 8]. Its bytes are named: cut out as an array they would have to be unwrapped.
 pub fn word(s: &[u8], at: usize) -> u64
     requires { at + 8 ≤ length s.now }
     ensures { result ≡ word_at s.now at }
