@@ -6,7 +6,7 @@
 # make try          the programs with no proof, on the interpreter and compiled with checks; TRIES=.. times on requests drawn at
 #                   random, beside the Rust
 # make compare      every call, the C entries and the square root beside the Rust, on fresh random requests: SEED=..; for the
-#                   calls COUNT=.. or SECONDS=.., the entries and the root get a million; APEX_SRC=.. names the folder of the
+#                   calls COUNT=.. or SECONDS=.., the entries get two million, the root one; APEX_SRC=.. names the folder of the
 #                   Rust source, if it is not ../shared
 # make bench        times: the square root, and the calls beside the Rust source and plain Rust
 # make vectors      the stored vectors of the square root anew
@@ -192,7 +192,7 @@ compare-calls: conformance
 	    $(if $(SECONDS),--seconds $(SECONDS),--count $(COUNT)))
 
 compare-entries: lib
-	@$(call WITH_SOURCE,$(CARGO) run $(REFERENCE) --bin entries -- --seed $(SEED) --count 1000000)
+	@$(call WITH_SOURCE,$(CARGO) run $(REFERENCE) --bin entries -- --seed $(SEED) --count 2000000)
 
 # That no byte beside a buffer is touched.
 valgrind-entries: lib

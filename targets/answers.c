@@ -1,6 +1,6 @@
-/* Calls of the four entries on blocks that are drawn by a fixed generator, the same on every
- * processor. Prints a digest of what was asked, a digest of what was answered (each number, and
- * each byte of the output and beside it) and how often each entry returned each number.
+/* Calls of the eight entries on blocks and at tolerances that are drawn by a fixed generator, the
+ * same on every processor. Prints a digest of what was asked, a digest of what was answered (each
+ * number, and each byte of the output and beside it) and how often each entry returned each number.
  *
  *     answers CALLS
  *
@@ -23,16 +23,48 @@ enum {
     FILL = 0xa5
 };
 
-enum entry { COMPOSE, IN_PLACE, INVERSE, CHAIN, ENTRIES };
-enum { NUMBERS = HANDSET_OVERFLOW + 1 };
+enum entry {
+    COMPOSE,
+    IN_PLACE,
+    INVERSE,
+    CHAIN,
+    COMPOSE_WITHIN,
+    IN_PLACE_WITHIN,
+    INVERSE_WITHIN,
+    CHAIN_WITHIN,
+    ENTRIES
+};
+enum { NUMBERS = HANDSET_TOLERANCE + 1 };
 
-static const char *const names[ENTRIES] = {"sgal3_compose", "sgal3_compose_in_place",
-                                           "sgal3_inverse", "sgal3_chain"};
+static const char *const names[ENTRIES] = {
+    "sgal3_compose",        "sgal3_compose_in_place",        "sgal3_inverse",
+    "sgal3_chain",          "sgal3_compose_within",          "sgal3_compose_in_place_within",
+    "sgal3_inverse_within", "sgal3_chain_within"};
+
+static int takes_tolerance(int entry) { return entry >= COMPOSE_WITHIN; }
+
+static int can_return(int entry, int number) {
+    switch (number) {
+    case HANDSET_DONE:
+    case HANDSET_LENGTH:
+    case HANDSET_NOT_FINITE:
+    case HANDSET_NOT_UNIT:
+    case HANDSET_OVERFLOW:
+        return 1;
+    case HANDSET_TOLERANCE:
+        return takes_tolerance(entry);
+    default:
+        return 0;
+    }
+}
 
 static const uint64_t SIGN = 0x8000000000000000u;
 static const uint64_t FRACTION = 0x000fffffffffffffu;
 static const uint64_t INFINITE = 0x7ff0000000000000u;
 static const uint64_t ONE = 0x3ff0000000000000u;
+/* The tolerances 1e-6 and 1/1024, the largest. */
+static const uint64_t MILLIONTH = 0x3eb0c6f7a0b5ed8du;
+static const uint64_t LARGEST = 0x3f50000000000000u;
 
 /* ---- the generator: never drawn from twice in an expression, whose order is the compiler's */
 
@@ -65,12 +97,45 @@ static uint64_t special(void) {
     return sign | patterns[below(sizeof patterns / sizeof patterns[0])];
 }
 
-static uint64_t quotient(int64_t a, int64_t b) {
-    const double value = (double)a / (double)b;
+static uint64_t pattern(double value) {
     uint64_t bits;
     memcpy(&bits, &value, sizeof bits);
     return bits;
 }
+
+static double of_pattern(uint64_t bits) {
+    double value;
+    memcpy(&value, &bits, sizeof value);
+    return value;
+}
+
+static uint64_t quotient(int64_t a, int64_t b) { return pattern((double)a / (double)b); }
+
+/* Mostly one that is permitted, of any size. */
+static uint64_t draw_tolerance(void) {
+    switch (below(12)) {
+    case 0:
+        return special();
+    case 1:
+        return drawn();
+    case 2:
+        return LARGEST - 2 + below(5);
+    case 3:
+    case 4:
+    case 5: /* from 2^-20 to the largest */
+        return number(1003, 10) & ~SIGN;
+    case 6:
+        return number(969, 50) & ~SIGN;
+    case 7:
+        return number(0, 969) & ~SIGN;
+    case 8:
+        return below(2) == 0 ? MILLIONTH | SIGN : drawn() & SIGN;
+    default:
+        return MILLIONTH;
+    }
+}
+
+static int permitted(uint64_t tolerance) { return tolerance != 0 && tolerance <= LARGEST; }
 
 /* The square of a quaternion of whole numbers over its squared norm is a unit, but for the rounding
  * of the four quotients. */
@@ -92,6 +157,22 @@ static void draw_w_alone(uint64_t *q, uint64_t w) {
     q[1] = number(900, 90);
     q[2] = number(0, 900);
     q[3] = special() & (SIGN | FRACTION);
+}
+
+/* Moves a norm away from 1, by no more than a tolerance of 2^-20 or more: so many units in the last
+ * place of each value are at most as many 2^-52 of the norm. */
+static void stretch(uint64_t *q, uint64_t tolerance) {
+    const uint32_t bits = (uint32_t)(tolerance >> 52) - 971;
+    const uint64_t units = drawn() >> (64 - bits);
+    const int down = below(2) == 0;
+    int i;
+    for (i = 0; i < 4; i += 1) {
+        if (!down) {
+            q[i] += units;
+        } else if ((q[i] & ~SIGN) > units) {
+            q[i] -= units;
+        }
+    }
 }
 
 static int in_quaternion(int place) { return place >= QUATERNION && place < VELOCITY; }
@@ -151,11 +232,20 @@ static void draw_tame(uint64_t *v) {
     }
 }
 
+/* The pattern of 1 plus or minus a distance of at most 1/1024, cut off, by whole numbers: a processor
+ * without a floating-point unit would add by libgcc's function, which TARGETS.md is about. */
+static uint64_t beside_one(uint64_t distance, int above) {
+    const uint64_t exponent = distance >> 52;
+    const uint64_t significand = (distance & 0x000fffffffffffffu) | 0x0010000000000000u;
+    const uint64_t halves = exponent < 970 ? 0 : significand >> (1022 - exponent); /* of 2^-52 */
+    return above ? ONE + halves / 2 : ONE - halves;
+}
+
 /* Any: half of them are tame, and the others may be refused. */
-static void draw_wild(uint64_t *v) {
-    /* 1 + 1e-6 and 1 - 1e-6, beyond which a norm is refused */
-    static const uint64_t limits[] = {0x3ff000010c6f7a0b, 0x3feffffde7210be9};
-    const uint64_t limit = limits[below(2)];
+static void draw_wild(uint64_t *v, uint64_t tolerance) {
+    /* 1 + tolerance and 1 - tolerance, beyond which a norm is refused */
+    const uint64_t limit = beside_one(permitted(tolerance) ? tolerance : MILLIONTH, below(2) == 0);
+    const uint32_t shift = 31 - below(11);
     const uint32_t place = below(VALUES);
     int i;
     draw_tame(v);
@@ -163,9 +253,9 @@ static void draw_wild(uint64_t *v) {
     case 0: /* a norm some units in the last place from a limit */
         draw_w_alone(v + QUATERNION, limit - 4 + below(9));
         break;
-    case 1: /* a norm about as far from 1 as a limit */
+    case 1: /* a norm about as far from 1 as a limit at 1e-6, or up to 1/1024 */
         for (i = QUATERNION; i < VELOCITY; i += 1) {
-            v[i] += drawn() >> 31;
+            v[i] += drawn() >> shift;
         }
         break;
     case 2: /* a quaternion of any size: its norm may overflow, or vanish */
@@ -229,7 +319,8 @@ static void digest_word(uint64_t *state, uint64_t word) {
     digest(state, bytes, sizeof bytes);
 }
 
-static void draw_blocks(uint8_t *at, uint32_t count, int tame) {
+static void draw_blocks(uint8_t *at, uint32_t count, int tame, uint64_t tolerance) {
+    const int wide = tolerance > MILLIONTH && permitted(tolerance);
     uint64_t v[VALUES];
     uint32_t i;
     for (i = 0; i < count; i += 1) {
@@ -237,7 +328,10 @@ static void draw_blocks(uint8_t *at, uint32_t count, int tame) {
         if (tame) {
             draw_tame(v);
         } else {
-            draw_wild(v);
+            draw_wild(v, tolerance);
+        }
+        if (wide && below(2) == 0) {
+            stretch(v + QUATERNION, tolerance);
         }
         put(block, v);
         if (!tame && below(40) == 0) { /* a damaged bit */
@@ -288,16 +382,21 @@ static uint32_t call(enum entry entry) {
     uint8_t *const left = first + below(OFFSETS);
     uint8_t *const right = second + below(OFFSETS);
     uint8_t *const out = output + below(OFFSETS);
-    const uint32_t blocks = entry == CHAIN ? draw_chain_blocks() : 1;
-    const int tame = entry == CHAIN && below(4) != 0;
+    const int chain = entry == CHAIN || entry == CHAIN_WITHIN;
+    const int inverse = entry == INVERSE || entry == INVERSE_WITHIN;
+    const uint32_t blocks = chain ? draw_chain_blocks() : 1;
+    const int tame = chain && below(4) != 0;
+    const uint64_t tolerance = takes_tolerance(entry) ? draw_tolerance() : MILLIONTH;
+    const double within = of_pattern(tolerance);
     uint64_t left_len;
     uint64_t right_len = 0;
     uint64_t out_len;
     uint32_t returned;
-    draw_blocks(left, blocks, tame);
+    digest_word(&asked, tolerance);
+    draw_blocks(left, blocks, tame, tolerance);
     left_len = draw_length((uint64_t)BYTES * blocks);
-    if (entry == COMPOSE || entry == IN_PLACE) {
-        draw_blocks(right, 1, 0);
+    if (!chain && !inverse) {
+        draw_blocks(right, 1, 0, tolerance);
         right_len = draw_length(BYTES);
     }
     out_len = draw_length(BYTES);
@@ -313,8 +412,21 @@ static uint32_t call(enum entry entry) {
     case INVERSE:
         returned = sgal3_inverse(left, left_len, out, out_len);
         break;
-    default:
+    case CHAIN:
         returned = sgal3_chain(left, left_len, out, out_len);
+        break;
+    case COMPOSE_WITHIN:
+        returned = sgal3_compose_within(left, left_len, right, right_len, within, out, out_len);
+        break;
+    case IN_PLACE_WITHIN:
+        memcpy(out, left, BYTES);
+        returned = sgal3_compose_in_place_within(out, left_len, right, right_len, within);
+        break;
+    case INVERSE_WITHIN:
+        returned = sgal3_inverse_within(left, left_len, within, out, out_len);
+        break;
+    default:
+        returned = sgal3_chain_within(left, left_len, within, out, out_len);
         break;
     }
     digest_word(&answered, returned);
@@ -345,7 +457,7 @@ int main(int count, char **words) {
         printf("%s returned", names[entry]);
         for (i = 0; i < NUMBERS; i += 1) {
             printf("%s %d: %" PRIu32, i == 0 ? "" : ",", i, counts[entry][i]);
-            failed |= (counts[entry][i] == 0) != (i == HANDSET_TURN);
+            failed |= (counts[entry][i] != 0) != can_return(entry, i);
         }
         printf("\n");
     }

@@ -48,7 +48,7 @@ fn main(rt: HostRuntime) -> io::Result<()> {
     let n = number(manifold_blocks::exp::<sgal3::Tangent>(&tangent));
     println!(rt; "SGal3 exp of theta (2^-16, 0, 0): {n}")?;
     let near = [1.0, 7.62939453125e-6, 0.0, 0.0];
-    let n = number(manifold_blocks::log::<so3::Element>(&near));
+    let n = number(manifold_blocks::log::<so3::Element>(&near, 1e-6));
     println!(rt; "SO3 log of (1, 2^-17, 0, 0): {n}")?;
     let turned = [
         0.0,
@@ -63,13 +63,13 @@ fn main(rt: HostRuntime) -> io::Result<()> {
         0.0,
         0.0,
     ];
-    let n = number(manifold_blocks::log::<sgal3::Element>(&turned));
+    let n = number(manifold_blocks::log::<sgal3::Element>(&turned, 1e-6));
     println!(rt; "SGal3 log of (1, 2^-17, 0, 0): {n}")?;
-    let n = number(sgal3_composition::inverse(&[0.0; 11]));
+    let n = number(sgal3_composition::inverse(&[0.0; 11], 1e-6));
     println!(rt; "inverse, all four zero: {n}")?;
     let nan = 0.0 / 0.0;
     let bad = [0.0, 0.0, 0.0, 2.0, 0.0, 0.0, 0.0, 0.0, 0.0, 0.0, nan];
-    let n = number(sgal3_composition::inverse(&bad));
+    let n = number(sgal3_composition::inverse(&bad, 1e-6));
     println!(rt; "inverse, NaN time and norm 2: {n}")?;
     let two = [0.0, 0.0, 0.0, 2.0, 0.0, 0.0, 0.0, 0.0, 0.0, 0.0, 0.0];
     let valid = manifold_blocks::is_valid::<sgal3::Element>(&two, 1e-6);

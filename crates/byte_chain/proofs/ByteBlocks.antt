@@ -11,7 +11,7 @@ use borrow.Author.Tests.{eq-eqb, ne_eqb}
 use Rattle.std.specs.Prelude.{Ok, Err}
 use Rattle.checks.specs.Refusals.{earlier}
 use Rattle.checks.specs.Checks as Checks
-use Rattle.checks.specs.Checks.{both, tolerance, all_finite, check_param_block}
+use Rattle.checks.specs.Checks.{both, all_finite, check_param_block}
 use Rattle.checks.proofs.Passed.{passed-finite}
 use Rattle.checks.specs.declared.Refusal.{Refusal}
 use Rattle.checks.specs.declared.Refusal.TheVariants.{Length, Overflow}
@@ -34,68 +34,69 @@ pub refused : (v : List Float) (t : Float) (r : Refusal) → check_param_block v
 unfolding check_element
 refused v t r e = rw e
 
-pub block_of : (s : List ℕ) → length s ≡ 88 → Blocks.check_block s ≡ check_element (values_at 11 s 0) tolerance
+pub block_of : (s : List ℕ) (t : Float) → length s ≡ 88 → Blocks.check_block s t ≡ check_element (values_at 11 s 0) t
 unfolding Blocks.check_block
-block_of s e = rw (eq-eqb _ _ e)
+block_of s t e = rw (eq-eqb _ _ e)
 
-pub no_block : (s : List ℕ) → (length s ≡ 88 → ⊥) → Blocks.check_block s ≡ Err (Length 88 (length s))
+pub no_block : (s : List ℕ) (t : Float) → (length s ≡ 88 → ⊥) → Blocks.check_block s t ≡ Err (Length 88 (length s))
 unfolding Blocks.check_block
-no_block s e = rw (ne_eqb _ _ e)
+no_block s t e = rw (ne_eqb _ _ e)
 
 -- ---- a chain's first block, and the rest
-one : (held : Answer) (n : ℕ) (block rest : List Float) → length block ≡ 11 → chain_from held (suc n) (block ++ rest) ≡ chain_from (compose_answers held (check_element block tolerance)) n rest
+one : (t : Float) (held : Answer) (n : ℕ) (block rest : List Float) → length block ≡ 11
+    → chain_from t held (suc n) (block ++ rest) ≡ chain_from t (compose_answers held (check_element block t)) n rest
 unfolding chain_from
-one held n block rest h = rw (take_at block rest 11 h, drop_at block rest 11 h)
+one t held n block rest h = rw (take_at block rest 11 h, drop_at block rest 11 h)
 
-module _ (s block rest : List ℕ) (e : s ≡ block ++ rest) (h : length block ≡ 88) where
+module _ (t : Float) (s block rest : List ℕ) (e : s ≡ block ++ rest) (h : length block ≡ 88) where
   split : values_at (length s / 88 * 11) s 0 ≡ values_at 11 block 0 ++ values_at (length rest / 88 * 11) rest 0
   split =
       let n : length s / 88 * 11 ≡ 11 + length rest / 88 * 11 = omega (arith, ap length e ∙ length-append block rest) in
       rw (n, e) (values-joined 11 (length rest / 88 * 11) block rest h)
 
-  pub next : (held : Answer) → chain_on held s ≡ chain_on (compose_answers held (check_element (values_at 11 block 0) tolerance)) rest
+  pub next : (held : Answer) → chain_on t held s ≡ chain_on t (compose_answers held (check_element (values_at 11 block 0) t)) rest
   unfolding chain_on
   next held =
       let n : length s / 88 ≡ suc (length rest / 88) = omega (arith, ap length e ∙ length-append block rest) in
-      rw (split, n) (one held (length rest / 88) (values_at 11 block 0) _ (values_length 11 block 0))
+      rw (split, n) (one t held (length rest / 88) (values_at 11 block 0) _ (values_length 11 block 0))
 
   -- what is held is an element: the next block is composed with it, or refused
-  composes : (a : Element) → check_param_block (values_at 11 block 0) 11 3 tolerance ≡ Checks.passed
-      → chain_on (Ok a) s ≡ chain_on (element_answer (Elements.compose a (element_of (values_at 11 block 0)))) rest
+  composes : (a : Element) → check_param_block (values_at 11 block 0) 11 3 t ≡ Checks.passed
+      → chain_on t (Ok a) s ≡ chain_on t (element_answer (Elements.compose a (element_of (values_at 11 block 0)))) rest
   unfolding compose_answers both
-  composes a p = next (Ok a) ∙ rw (passed (values_at 11 block 0) tolerance p)
+  composes a p = next (Ok a) ∙ rw (passed (values_at 11 block 0) t p)
 
-  pub goes_on : (a : Element) → check_param_block (values_at 11 block 0) 11 3 tolerance ≡ Checks.passed
+  pub goes_on : (a : Element) → check_param_block (values_at 11 block 0) 11 3 t ≡ Checks.passed
       → all_finite (Elements.coeffs (Elements.compose a (element_of (values_at 11 block 0)))) ≡ true
-      → chain_on (Ok a) s ≡ chain_on (Ok (Elements.compose a (element_of (values_at 11 block 0)))) rest
+      → chain_on t (Ok a) s ≡ chain_on t (Ok (Elements.compose a (element_of (values_at 11 block 0)))) rest
   goes_on a p f = composes a p ∙ rw (finished _ f)
 
-  pub overflows : (a : Element) → check_param_block (values_at 11 block 0) 11 3 tolerance ≡ Checks.passed
+  pub overflows : (a : Element) → check_param_block (values_at 11 block 0) 11 3 t ≡ Checks.passed
       → all_finite (Elements.coeffs (Elements.compose a (element_of (values_at 11 block 0)))) ≡ false
-      → chain_on (Ok a) s ≡ chain_on (Err Overflow) rest
+      → chain_on t (Ok a) s ≡ chain_on t (Err Overflow) rest
   overflows a p f = composes a p ∙ rw (overflowed _ f)
 
-  pub stops : (a : Element) (q : Refusal) → check_param_block (values_at 11 block 0) 11 3 tolerance ≡ Err q → chain_on (Ok a) s ≡ chain_on (Err q) rest
+  pub stops : (a : Element) (q : Refusal) → check_param_block (values_at 11 block 0) 11 3 t ≡ Err q → chain_on t (Ok a) s ≡ chain_on t (Err q) rest
   unfolding compose_answers both
-  stops a q p = next (Ok a) ∙ rw (refused (values_at 11 block 0) tolerance q p)
+  stops a q p = next (Ok a) ∙ rw (refused (values_at 11 block 0) t q p)
 
   -- what is held is a refusal already
-  pub passed-by : (r : Refusal) → check_param_block (values_at 11 block 0) 11 3 tolerance ≡ Checks.passed → chain_on (Err r) s ≡ chain_on (Err r) rest
+  pub passed-by : (r : Refusal) → check_param_block (values_at 11 block 0) 11 3 t ≡ Checks.passed → chain_on t (Err r) s ≡ chain_on t (Err r) rest
   unfolding compose_answers both
-  passed-by r p = next (Err r) ∙ rw (passed (values_at 11 block 0) tolerance p)
+  passed-by r p = next (Err r) ∙ rw (passed (values_at 11 block 0) t p)
 
-  pub refused-by : (r q : Refusal) → check_param_block (values_at 11 block 0) 11 3 tolerance ≡ Err q → chain_on (Err r) s ≡ chain_on (Err (earlier r q)) rest
+  pub refused-by : (r q : Refusal) → check_param_block (values_at 11 block 0) 11 3 t ≡ Err q → chain_on t (Err r) s ≡ chain_on t (Err (earlier r q)) rest
   unfolding compose_answers both
-  refused-by r q p = next (Err r) ∙ rw (refused (values_at 11 block 0) tolerance q p)
+  refused-by r q p = next (Err r) ∙ rw (refused (values_at 11 block 0) t q p)
 
-pub end : (held : Answer) (s : List ℕ) → length s < 88 → chain_on held s ≡ held
+pub end : (t : Float) (held : Answer) (s : List ℕ) → length s < 88 → chain_on t held s ≡ held
 unfolding chain_on chain_from
-end held s h = let e : length s / 88 ≡ 0 = omega arith in rw e
+end t held s h = let e : length s / 88 ≡ 0 = omega arith in rw e
 
 -- ---- the chain after a first block
-pub after : (f s : List ℕ) → chain_after f (length s / 88) s ≡ chain_on (check_element (values_at 11 f 0) tolerance) s
+pub after : (t : Float) (f s : List ℕ) → chain_after t f (length s / 88) s ≡ chain_on t (check_element (values_at 11 f 0) t) s
 unfolding chain_after chain_on
-after f s = refl
+after t f s = refl
 
 -- a chain's first block
 pub ruleset first = (after, passed, refused, passed-finite)

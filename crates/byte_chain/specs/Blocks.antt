@@ -1,19 +1,19 @@
 -- Byte blocks: an element of 88 little-endian bytes, and a chain of them. Definitions only.
-use Rattle.std.specs.Prelude.{ℕ, ◌*◌, ◌/◌, cond, List, eqb, length, Err}
-use Rattle.checks.specs.Checks.{and_then, tolerance, check_chain_length}
+use Rattle.std.specs.Prelude.{ℕ, ◌*◌, ◌/◌, cond, List, eqb, length, Err, Float}
+use Rattle.checks.specs.Checks.{and_then, check_chain_length}
 use Rattle.checks.specs.declared.Refusal.TheVariants.{Length}
 use Rattle.element_bytes.specs.Bytes.{values_at}
 use Rattle.sgal3_composition.specs.Calls as Calls
 use Rattle.sgal3_composition.specs.Calls.{Answer}
 
 -- the element of a block of 88 bytes, or why the block is refused; lengths count bytes
-unfoldable pub check_block : List ℕ → Answer
-check_block s = cond (eqb (length s) 88) (Calls.check_element (values_at 11 s 0) tolerance) (Err (Length 88 (length s)))
+unfoldable pub check_block : List ℕ → Float → Answer
+check_block s tolerance = cond (eqb (length s) 88) (Calls.check_element (values_at 11 s 0) tolerance) (Err (Length 88 (length s)))
 
 -- the chain of n blocks is the chain of their values
-unfoldable pub chain_blocks : ℕ → List ℕ → Answer
-chain_blocks n s = Calls.chain_blocks n (values_at (n * 11) s 0)
+unfoldable pub chain_blocks : Float → ℕ → List ℕ → Answer
+chain_blocks tolerance n s = Calls.chain_blocks tolerance n (values_at (n * 11) s 0)
 
 -- at most `most` bytes
-unfoldable pub chain : ℕ → List ℕ → Answer
-chain most s = and_then (check_chain_length (length s) 88 most) (λ _. chain_blocks (length s / 88) s)
+unfoldable pub chain : ℕ → List ℕ → Float → Answer
+chain most s tolerance = and_then (check_chain_length (length s) 88 most) (λ _. chain_blocks tolerance (length s / 88) s)

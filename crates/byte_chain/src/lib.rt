@@ -13,13 +13,13 @@ use std::slice::ChunksExact;
 
 // Of a refusal and those of the blocks, the one that is tried first.
 #[tactic(auto, using(crate::proofs::ByteBlocks::blocks))]
-fn earliest(first: Refusal, blocks: ChunksExact<u8>) -> Refusal
+fn earliest(first: Refusal, blocks: ChunksExact<u8>, tolerance: f64) -> Refusal
     requires { chunks_exact_size blocks ≡ 88 }
-    ensures { Err result ≡ chain_on (Err first) (chunks_exact_rest blocks.entry) }
+    ensures { Err result ≡ chain_on tolerance (Err first) (chunks_exact_rest blocks.entry) }
 {
     let mut held = first;
     for block in blocks {
-        if let Err(r) = element_bytes::check_values(block, 0) {
+        if let Err(r) = element_bytes::check_values(block, 0, tolerance) {
             held = held.earlier(r);
         }
     }
@@ -29,20 +29,20 @@ fn earliest(first: Refusal, blocks: ChunksExact<u8>) -> Refusal
 // The byte blocks of s, composed one after the other with `start`. Once a block is refused or an element overflows no value
 // counts any more, only an earlier refusal.
 #[tactic(auto, using(crate::proofs::ByteBlocks::blocks))]
-fn compose_blocks(start: Element, s: &[u8]) -> Result<Element, Refusal>
-    ensures { result ≡ chain_on (Ok start) s.now }
+fn compose_blocks(start: Element, s: &[u8], tolerance: f64) -> Result<Element, Refusal>
+    ensures { result ≡ chain_on tolerance (Ok start) s.now }
 {
     let mut held = start;
     let mut blocks = s.chunks_exact(88);
     while let Some(block) = blocks.next() {
-        if let Err(r) = element_bytes::check_values(block, 0) {
-            return Err(earliest(r, blocks));
+        if let Err(r) = element_bytes::check_values(block, 0, tolerance) {
+            return Err(earliest(r, blocks, tolerance));
         }
         held = held.compose(element_bytes::element(block, 0));
         // With is_finite an inverse takes 7 per cent longer, and a compose call up to 3.
         let values = held.coeffs();
         if !checks::all_finite(&values) {
-            return Err(earliest(Refusal::Overflow, blocks));
+            return Err(earliest(Refusal::Overflow, blocks, tolerance));
         }
     }
     Ok(held)
@@ -50,21 +50,25 @@ fn compose_blocks(start: Element, s: &[u8]) -> Result<Element, Refusal>
 
 // The byte blocks of s, composed one after the other with the block `first`, a slice as those are.
 #[tactic(auto, using(crate::proofs::ByteBlocks::first))]
-pub fn chain_blocks(first: &[u8], s: &[u8]) -> Result<Element, Refusal>
+pub fn chain_blocks(first: &[u8], s: &[u8], tolerance: f64) -> Result<Element, Refusal>
     requires { length first.now ≡ 88 }
-    ensures { result ≡ chain_after first.now (length s.now / 88) s.now }
+    ensures { result ≡ chain_after tolerance first.now (length s.now / 88) s.now }
 {
-    if let Err(r) = element_bytes::check_values(first, 0) {
-        return Err(earliest(r, s.chunks_exact(88)));
+    if let Err(r) = element_bytes::check_values(first, 0, tolerance) {
+        return Err(earliest(r, s.chunks_exact(88), tolerance));
     }
-    compose_blocks(element_bytes::element(first, 0), s)
+    compose_blocks(element_bytes::element(first, 0), s, tolerance)
 }
 
 // The chain of at most `most` bytes of blocks.
-#[tactic(auto, unfolding(crate::specs::Blocks::chain, crate::specs::Blocks::chain_blocks, crate::specs::Steps::chain_on, sgal3_composition::specs::Calls::chain_blocks))]
-pub fn chain(s: &[u8], most: usize) -> Result<Element, Refusal>
-    ensures { result ≡ Blocks.chain most s.now }
+#[tactic(auto, unfolding(crate::specs::Blocks::chain, crate::specs::Blocks::chain_blocks, crate::specs::Steps::chain_on, sgal3_composition::specs::Calls::chain_blocks, sgal3_composition::specs::Calls::starts))]
+pub fn chain(s: &[u8], most: usize, tolerance: f64) -> Result<Element, Refusal>
+    ensures { result ≡ Blocks.chain most s.now tolerance }
 {
     checks::check_chain_length(s.len(), 88, most)?;
-    compose_blocks(Element::identity(), s)
+    // even if there is no block
+    if let Err(r) = checks::check_tolerance(tolerance) {
+        return Err(earliest(r, s.chunks_exact(88), tolerance));
+    }
+    compose_blocks(Element::identity(), s, tolerance)
 }

@@ -3,3 +3,5 @@ pub mod Passed
 pub mod Order
 pub mod Outcomes
 pub mod NearOne
+pub mod Places
+pub mod Trial

@@ -1,99 +1,61 @@
--- The order of refusals is the paper's: what `earlier` picks from left to right is the first refusal of the smallest number. However many numbers there are.
+-- The order of refusals is the paper's: what `earlier` picks from left to right is what the numbers of `tried` give, each over all blocks.
 -- Assumes nothing.
-use Prim.Native.Nat.{ℕ, zero, suc, ◌+◌, ◌≤◌, ◌<◌}
-use mathlib.Core.Path.{◌≡◌, refl, sym, ap, ◌∙◌, subst}
-use mathlib.Core.Bool.{Bool, true, false, not, cond}
+use Prim.Native.Nat.{ℕ, ◌≤◌, ◌<◌}
+use mathlib.Core.Path.{◌≡◌, refl, ◌∙◌}
+use mathlib.Core.Bool.{Bool, true, false, cond}
 use mathlib.Core.List.{List, [], ◌∷◌}
-use native.Mathlib.Nat.{le_refl, le_trans, lt_of_le_of_lt, lt_of_lt_of_le, eq-or-lt_of_le}
-use native.Mathlib.Omega.{arith}
-use mathlib.Core.Logic.{◌⊎◌, inl, inr}
-use lib.Dec.{T, eqb, ltb, eqb→eq, ltb→lt, nltb→le, eqb_refl}
-use Rattle.checks.specs.Refusals.{number, earlier, first_with, by_number, earliest}
+use borrow.Author.Tests.{ltb-true, ltb-false}
+use lib.Dec.{eqb, ltb, leb-zero, leb-suc-zero, leb-suc-suc}
+use Rattle.checks.specs.Refusals.{number, tried, place, earlier, first_with, in_turn, earliest}
 use Rattle.checks.specs.declared.Refusal.{Refusal}
-
--- ---- by the test of `first_with`
-found : (k : ℕ) (r : Refusal) (rs : List Refusal) (d : Refusal) → number r ≡ k → first_with k (r ∷ rs) d ≡ r
-unfolding first_with
-found k r rs d e = go (eqb (number r) k) (subst (λ (x : ℕ). T (eqb (number r) x)) e (eqb_refl (number r)))
-  where
-    go : (b : Bool) → T b → cond b r (first_with k rs d) ≡ r
-    go true t = refl
-    go false t = absurd t
-
-passed : (k : ℕ) (r : Refusal) (rs : List Refusal) (d : Refusal) → k < number r → first_with k (r ∷ rs) d ≡ first_with k rs d
-unfolding first_with
-passed k r rs d h = go (eqb (number r) k) (eqb→eq (number r) k)
-  where
-    go : (b : Bool) → (T b → number r ≡ k) → cond b r (first_with k rs d) ≡ first_with k rs d
-    go true e = absurd (never (number r) k (e tt) h)
-      where
-        never : (a b : ℕ) → a ≡ b → b < a → ⊥
-        never a b e h = omega arith
-    go false e = refl
+use Rattle.checks.specs.declared.Refusal.TheVariants.{Length, NotFinite, Tolerance, NotUnit, Turn, Overflow}
 
 -- ---- what `earlier` picks
 pub data Picked (r s : Refusal) : Type 0 where
-  left : number r ≤ number s → earlier r s ≡ r → Picked r s
-  right : number s < number r → earlier r s ≡ s → Picked r s
+  left : place tried (number r) ≤ place tried (number s) → earlier r s ≡ r → Picked r s
+  right : place tried (number s) < place tried (number r) → earlier r s ≡ s → Picked r s
 
 pub picked : (r s : Refusal) → Picked r s
 unfolding earlier
-picked r s = go (ltb (number s) (number r)) refl (ltb→lt (number s) (number r)) (nltb→le (number s) (number r))
+picked r s = go (ltb (place tried (number s)) (place tried (number r))) refl
   where
-    go : (b : Bool) → ltb (number s) (number r) ≡ b → (T b → number s < number r) → (T (not b) → number r ≤ number s) → Picked r s
-    go true e h k = right (h tt) (ap (λ (c : Bool). cond c s r) e)
-    go false e h k = left (k tt) (ap (λ (c : Bool). cond c s r) e)
+    go : (b : Bool) → ltb (place tried (number s)) (place tried (number r)) ≡ b → Picked r s
+    go true e = right (ltb-true _ _ e) (rw e)
+    go false e = left (ltb-false _ _ e) (rw e)
 
-pub earliest-le : (r : Refusal) (rs : List Refusal) → number (earliest r rs) ≤ number r
-unfolding earliest
-earliest-le r [] = le_refl (number r)
-earliest-le r (s ∷ rs) = go (picked r s) (earliest-le (earlier r s) rs)
-  where
-    go : Picked r s → number (earliest (earlier r s) rs) ≤ number (earlier r s) → number (earliest (earlier r s) rs) ≤ number r
-    go (left l e) h = le_trans h (subst (λ (x : Refusal). number x ≤ number r) (sym e) (le_refl (number r)))
-    go (right l e) h = le_trans h (subst (λ (x : Refusal). number x ≤ number r) (sym e) (native.Mathlib.Nat.le_of_lt l))
+-- ---- for any list of numbers, two refusals side by side give the same as the one of them that stands further up in that list
+abbrev picked_by : List ℕ → Refusal → Refusal → Refusal
+picked_by ks r s = cond (ltb (place ks (number s)) (place ks (number r))) s r
 
--- ---- at the smallest number it is the first; below it there is none
-first : (k : ℕ) (r : Refusal) (rs : List Refusal) (d : Refusal) → number (earliest r rs) ≡ k → first_with k (r ∷ rs) d ≡ earliest r rs
-unfolding earliest
-first k r [] d e = found k r [] d e
-first k r (s ∷ rs) d e = go (picked r s) (λ (x : Refusal) (p : earlier r s ≡ x) (q : number (earliest x rs) ≡ k). first k x rs d q)
+merged : (ks : List ℕ) (r s : Refusal) (rs : List Refusal) (d : Refusal) → in_turn ks (r ∷ s ∷ rs) d ≡ in_turn ks (picked_by ks r s ∷ rs) d
+unfolding in_turn first_with place
+merged [] r s rs d = refl
+merged (k ∷ ks) r s rs d = go (eqb (number r) k) refl (eqb (number s) k) refl (merged ks r s rs d)
   where
-    go : Picked r s → ((x : Refusal) → earlier r s ≡ x → number (earliest x rs) ≡ k → first_with k (x ∷ rs) d ≡ earliest x rs) → first_with k (r ∷ s ∷ rs) d ≡ earliest (earlier r s) rs
-    go (right l p) ih =
-        let q : number (earliest s rs) ≡ k = ap (λ (x : Refusal). number (earliest x rs)) (sym p) ∙ e in
-        passed k r (s ∷ rs) d (lt_of_le_of_lt (subst (λ (n : ℕ). n ≤ number s) q (earliest-le s rs)) l) ∙ ih s p q ∙ ap (λ (x : Refusal). earliest x rs) (sym p)
-    go (left l p) ih =
-        let q : number (earliest r rs) ≡ k = ap (λ (x : Refusal). number (earliest x rs)) (sym p) ∙ e in
-        skip l (eq-or-lt_of_le (subst (λ (n : ℕ). n ≤ number r) q (earliest-le r rs))) (ih r p q) ∙ ap (λ (x : Refusal). earliest x rs) (sym p)
-      where
-        skip : number r ≤ number s → (k ≡ number r) ⊎ (k < number r) → first_with k (r ∷ rs) d ≡ earliest r rs → first_with k (r ∷ s ∷ rs) d ≡ earliest r rs
-        skip l (inl c) h = found k r (s ∷ rs) d (sym c) ∙ sym (found k r rs d (sym c)) ∙ h
-        skip l (inr c) h = passed k r (s ∷ rs) d c ∙ passed k s rs d (lt_of_lt_of_le c l) ∙ sym (passed k r rs d c) ∙ h
+    other : (b : Bool) → eqb (number r) k ≡ false → eqb (number s) k ≡ false → eqb (number (cond b s r)) k ≡ false
+    other true e f = f
+    other false e f = e
 
-none : (k : ℕ) (r : Refusal) (rs : List Refusal) (d : Refusal) → k < number (earliest r rs) → first_with k (r ∷ rs) d ≡ d
-unfolding earliest
-none k r [] d h = passed k r [] d h ∙ (unfold first_with in refl)
-none k r (s ∷ rs) d h = go (picked r s) (λ (x : Refusal) (q : k < number (earliest x rs)). none k x rs d q)
-  where
-    go : Picked r s → ((x : Refusal) → k < number (earliest x rs) → first_with k (x ∷ rs) d ≡ d) → first_with k (r ∷ s ∷ rs) d ≡ d
-    go (right l p) ih =
-        let q : k < number (earliest s rs) = subst (λ (x : Refusal). k < number (earliest x rs)) p h in
-        passed k r (s ∷ rs) d (native.Mathlib.Nat.lt_trans (lt_of_lt_of_le q (earliest-le s rs)) l) ∙ ih s q
-    go (left l p) ih =
-        let q : k < number (earliest r rs) = subst (λ (x : Refusal). k < number (earliest x rs)) p h in
-        let c : k < number r = lt_of_lt_of_le q (earliest-le r rs) in
-        passed k r (s ∷ rs) d c ∙ passed k s rs d (lt_of_lt_of_le c l) ∙ sym (passed k r rs d c) ∙ ih r q
+    go : (a : Bool) → eqb (number r) k ≡ a → (b : Bool) → eqb (number s) k ≡ b → in_turn ks (r ∷ s ∷ rs) d ≡ in_turn ks (picked_by ks r s ∷ rs) d
+        → in_turn (k ∷ ks) (r ∷ s ∷ rs) d ≡ in_turn (k ∷ ks) (picked_by (k ∷ ks) r s ∷ rs) d
+    go true e b f ih = rw (e, leb-suc-zero, e)
+    go false e true f ih = rw (e, f, leb-suc-suc, leb-zero, f)
+    go false e false f ih = rw (e, f, leb-suc-suc, other (ltb (place ks (number s)) (place ks (number r))) e f, ih)
 
-pub literal-order : (n k : ℕ) (r : Refusal) (rs : List Refusal) (d : Refusal) → k ≤ number (earliest r rs) → number (earliest r rs) < k + n → by_number n k (r ∷ rs) d ≡ earliest r rs
-unfolding by_number
-literal-order zero k r rs d lo hi = absurd (never (number (earliest r rs)) k lo hi)
-  where
-    never : (a k : ℕ) → k ≤ a → a < k + 0 → ⊥
-    never a k h l = omega arith
-literal-order (suc n) k r rs d lo hi = go (eq-or-lt_of_le lo) (λ (l : k < number (earliest r rs)). literal-order n (suc k) r rs d l (omega arith))
-  where
-    go : (k ≡ number (earliest r rs)) ⊎ (k < number (earliest r rs)) → (k < number (earliest r rs) → by_number n (suc k) (r ∷ rs) d ≡ earliest r rs)
-        → first_with k (r ∷ rs) (by_number n (suc k) (r ∷ rs) d) ≡ earliest r rs
-    go (inl e) ih = first k r rs (by_number n (suc k) (r ∷ rs) d) (sym e)
-    go (inr l) ih = none k r rs (by_number n (suc k) (r ∷ rs) d) l ∙ ih l
+one_left : (r : Refusal) (rs : List Refusal) (d : Refusal) → in_turn tried (r ∷ rs) d ≡ in_turn tried (earliest r rs ∷ []) d
+unfolding earliest earlier
+one_left r [] d = refl
+one_left r (s ∷ rs) d = merged tried r s rs d ∙ one_left (earlier r s) rs d
+
+-- the number of each refusal is tried
+alone : (r d : Refusal) → in_turn tried (r ∷ []) d ≡ r
+unfolding in_turn first_with tried number
+alone (Length n m) d = refl
+alone NotFinite d = refl
+alone Tolerance d = refl
+alone (NotUnit n) d = refl
+alone Turn d = refl
+alone Overflow d = refl
+
+pub literal-order : (r : Refusal) (rs : List Refusal) (d : Refusal) → in_turn tried (r ∷ rs) d ≡ earliest r rs
+literal-order r rs d = one_left r rs d ∙ alone (earliest r rs) d

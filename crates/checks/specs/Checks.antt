@@ -1,5 +1,5 @@
--- The checks of a parameter block, in the paper's order: length, all values, the quaternion's norm. Definitions only.
-use Rattle.std.specs.Prelude.{ℕ, Bool, true, ◌&&◌, ◌-◌, ◌%◌, cond, List, [], ◌∷◌, eqb, ltb, length, get_or, take, drop, Result, Ok, Err, ⊤, Float}
+-- The checks of a parameter block, in the paper's order: length, all values, the tolerance, the quaternion's norm. Definitions only.
+use Rattle.std.specs.Prelude.{ℕ, Bool, true, not, ◌&&◌, ◌-◌, ◌%◌, cond, List, [], ◌∷◌, eqb, ltb, length, get_or, take, drop, Result, Ok, Err, ⊤, Float}
 use Rattle.std.specs.Float.{nan, binary64}
 use Rattle.std.specs.Float.Ieee.{of_bits, add, sub, mul, lt}
 use Rattle.std.specs.Float.Ieee.Scale.{finite}
@@ -7,7 +7,7 @@ use Rattle.float.specs.Exact.{abs}
 use Rattle.float.specs.Root.{square_root}
 use Rattle.checks.specs.Refusals.{earlier}
 use Rattle.checks.specs.declared.Refusal.{Refusal}
-use Rattle.checks.specs.declared.Refusal.TheVariants.{Length, NotFinite, NotUnit}
+use Rattle.checks.specs.declared.Refusal.TheVariants.{Length, NotFinite, Tolerance, NotUnit}
 
 -- a check that passed has nothing to add
 abbrev pub Check : Type 0
@@ -32,6 +32,13 @@ both (Err r) (Err s) = Err (earlier r s)
 unfoldable pub tolerance : Float
 tolerance = of_bits binary64 0x3eb0_c6f7_a0b5_ed8d
 
+-- finite, above 0 and at most 1/1024
+unfoldable pub permitted : Float → Bool
+permitted t = (finite t && lt (of_bits binary64 0) t) && not (lt (of_bits binary64 0x3f50_0000_0000_0000) t)
+
+unfoldable pub check_tolerance : Float → Check
+check_tolerance t = cond (permitted t) passed (Err Tolerance)
+
 unfoldable pub all_finite : List Float → Bool
 all_finite [] = true
 all_finite (x ∷ xs) = finite x && all_finite xs
@@ -47,11 +54,12 @@ norm_of q = square_root (sq 0 ⊕ sq 1 ⊕ sq 2 ⊕ sq 3)
     sq : ℕ → Float
     sq i = mul binary64 (get_or q i nan) (get_or q i nan)
 
--- a norm that is not finite is refused before one more than the tolerance from 1
+-- a norm that is not finite is refused before the tolerance, and that before a norm more than the tolerance from 1
 unfoldable pub check_norm : Float → Float → Check
 check_norm n tolerance =
     cond (finite n)
-    (cond (lt tolerance (abs (sub binary64 n (of_bits binary64 0x3ff0_0000_0000_0000)))) (Err (NotUnit n)) passed)
+    (and_then (check_tolerance tolerance) (λ _.
+    cond (lt tolerance (abs (sub binary64 n (of_bits binary64 0x3ff0_0000_0000_0000)))) (Err (NotUnit n)) passed))
     (Err NotFinite)
 
 unfoldable pub check_unit_quaternion : List Float → Float → Check
@@ -74,8 +82,8 @@ check_values s len = and_then (check_length s len) (λ _. cond (all_finite s) pa
 unfoldable pub check_param_block : List Float → ℕ → ℕ → Float → Check
 check_param_block s len at tolerance = and_then (check_values s len) (λ _. check_unit_quaternion (take 4 (drop at s)) tolerance)
 
-unfoldable pub validate_sgal3_params : List Float → Check
-validate_sgal3_params s = check_param_block s 11 3 tolerance
+unfoldable pub validate_sgal3_params : List Float → Float → Check
+validate_sgal3_params s tolerance = check_param_block s 11 3 tolerance
 
-unfoldable pub validate_so3_params : List Float → Check
-validate_so3_params s = check_param_block s 4 0 tolerance
+unfoldable pub validate_so3_params : List Float → Float → Check
+validate_so3_params s tolerance = check_param_block s 4 0 tolerance

@@ -14,15 +14,19 @@ pub enum Refusal {
     NotUnit(f64),
     Turn,
     Overflow,
+    Tolerance,
 }
 
-// How far from 1 the norm of a quaternion may be: QUATERNION_NORM_TOLERANCE of so3.rs.
+// How far from 1 the norm of a quaternion may be where the caller chooses no tolerance: QUATERNION_NORM_TOLERANCE of so3.rs.
 #[tactic(auto, unfolding(crate::specs::Checks::tolerance))]
 pub fn tolerance() -> f64
     ensures { result ≡ Checks.tolerance }
 {
     1e-6
 }
+
+// The numbers, in the order in which they are tried.
+const TRIED: [u32; 6] = [1, 2, 7, 3, 4, 5];
 
 impl Refusal {
     // The published number, which the C entries return and the programs print.
@@ -39,16 +43,30 @@ impl Refusal {
             Refusal::NotUnit(_) => 3,
             Refusal::Turn => 4,
             Refusal::Overflow => 5,
+            Refusal::Tolerance => 7,
         }
     }
 
-    // The one that is tried first: of two blocks' refusals the smaller number, and at one number the left block's. No Ord: two refusals of one
-    // number differ in what they carry, and are not equal.
+    // How far down the order of trial it stands.
+    fn place(self) -> usize
+        ensures { result ≡ Refusals.place Refusals.tried (Refusals.number self) }
+    {
+        let n = self.number();
+        for (k, tried) in TRIED.iter().enumerate() {
+            if *tried == n {
+                return k;
+            }
+        }
+        TRIED.len()
+    }
+
+    // The one that is tried first: of two blocks' refusals the one that stands further up in that order, and at one number the left block's. No Ord:
+    // two refusals of one number differ in what they carry, and are not equal.
     #[tactic(auto, unfolding(crate::specs::Refusals::earlier))]
     pub fn earlier(self, right: Refusal) -> Refusal
         ensures { result ≡ Refusals.earlier self right }
     {
-        if right.number() < self.number() {
+        if right.place() < self.place() {
             right
         } else {
             self
@@ -84,7 +102,19 @@ pub fn all_finite(s: &[f64]) -> bool
     all
 }
 
-// A norm that is not finite is refused before one that is off.
+// Finite, above 0 and at most 1/1024.
+#[tactic(auto, unfolding(crate::specs::Checks::check_tolerance, crate::specs::Checks::permitted))]
+pub fn check_tolerance(tolerance: f64) -> Result<(), Refusal>
+    ensures { result ≡ Checks.check_tolerance tolerance }
+{
+    if (float::is_finite(tolerance) & (0.0 < tolerance)) & !(9.765625e-4 < tolerance) {
+        Ok(())
+    } else {
+        Err(Refusal::Tolerance)
+    }
+}
+
+// A norm that is not finite is refused before the tolerance, and that before a norm that is off.
 #[tactic(auto, unfolding(crate::specs::Checks::check_norm))]
 fn check_norm(norm: f64, tolerance: f64) -> Result<(), Refusal>
     ensures { result ≡ Checks.check_norm norm tolerance }
@@ -92,19 +122,20 @@ fn check_norm(norm: f64, tolerance: f64) -> Result<(), Refusal>
     if !float::is_finite(norm) {
         return Err(Refusal::NotFinite); // it overflowed
     }
+    check_tolerance(tolerance)?;
     if float::magnitude(norm - 1.0) > tolerance {
         return Err(Refusal::NotUnit(norm));
     }
     Ok(())
 }
 
-// Whether the root of a squared norm is sure to pass the check, which needs no root: within 2^-20 of 1 the root is nearer to 1 still.
-// A no says nothing.
+// Whether the root of a squared norm is sure to pass the check, which needs no root: where a squared norm is within the tolerance of 1, its
+// root is nearer still. Below 2^-40 the proof leaves too little room for the roundings. A no says nothing.
 fn passes_without_root(squared: f64, tolerance: f64) -> bool
     ensures { result ≡ true → Checks.check_norm (square_root squared) tolerance ≡ Checks.passed }
 {
-    ((0.9999990463256836 <= squared) & (squared <= 1.0000009536743164))
-        & ((9.5367431640625e-7 <= tolerance) & (tolerance <= 1.0))
+    ((1.0 - tolerance <= squared) & (squared <= 1.0 + tolerance))
+        & ((9.094947017729282379150390625e-13 <= tolerance) & (tolerance <= 9.765625e-4))
 }
 
 // The four values w, x, y, z.

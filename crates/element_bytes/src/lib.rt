@@ -3,7 +3,7 @@
 
 ghost use Rattle.std.specs.Prelude.{◌≡◌, true, ◌+◌, ◌≤◌, length};
 ghost use Rattle.std.proofs.lemmas.List.Edits.{sets};
-ghost use Rattle.checks.specs.Checks.{tolerance, all_finite, check_param_block};
+ghost use Rattle.checks.specs.Checks.{all_finite, check_param_block};
 ghost use Rattle.sgal3.specs.Elements.{coeffs, element_of};
 ghost use Rattle.element_bytes.specs.Bytes as Bytes;
 ghost use Rattle.element_bytes.specs.Steps as Steps;
@@ -80,7 +80,7 @@ pub fn element(s: &[u8], at: usize) -> Element
 // The check of the 88 bytes from at on. It does not hand on the values: its callers read them where they use them, which is faster
 // than through memory.
 #[tactic(auto, unfolding(checks::specs::Checks::check_param_block, checks::specs::Checks::check_values, checks::specs::Checks::check_length, crate::specs::Bytes::values_at, sgal3::specs::Elements::coeffs, sgal3::specs::Elements::element_of, manifold::specs::Answers::vector_at, manifold::specs::Answers::quaternion_at))]
-pub fn check_values(s: &[u8], at: usize) -> Result<(), Refusal>
+pub fn check_values(s: &[u8], at: usize, tolerance: f64) -> Result<(), Refusal>
     requires { at + 88 ≤ length s.now }
     ensures { result ≡ check_param_block (Bytes.values_at 11 s.now at) 11 3 tolerance }
 {
@@ -88,7 +88,7 @@ pub fn check_values(s: &[u8], at: usize) -> Result<(), Refusal>
         return Err(Refusal::NotFinite);
     }
     let values = element(s, at).coeffs();
-    checks::check_unit_quaternion(&values[3..7], checks::tolerance())
+    checks::check_unit_quaternion(&values[3..7], tolerance)
 }
 
 #[tactic(auto, unfolding(checks::specs::Checks::all_finite))]

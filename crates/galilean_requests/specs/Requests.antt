@@ -1,7 +1,5 @@
 -- What a request on the Galilean group is answered, as bytes: the calls by their numbers, none where there is no such call. Definitions only.
 use Rattle.std.specs.Prelude.{ℕ, cond, List, [], ◌∷◌, eqb, ltb, Option, Some, None, Ok}
-use Rattle.std.specs.Float.{binary64}
-use Rattle.std.specs.Float.Ieee.{of_bits}
 use Rattle.manifold.specs.Answers.{answered, vector_values, matrix_values}
 use Rattle.manifold_blocks.specs.Calls as Generic
 use Rattle.sgal3_rows.specs.TenRows as TenRows
@@ -18,26 +16,26 @@ use Rattle.outcomes.specs.declared.Request.{Request}
 -- elements of the Galilean group: the calls that the handset makes, and the parts of one
 unfoldable pub element_call : Request → Option (List ℕ)
 element_call r =
-    cond (eqb r.call 70) (Some (Outcomes.of Elements.coeffs 0 (Composition.compose r.left.now r.right.now)))
-    (cond (eqb r.call 71) (Some (Outcomes.of Elements.coeffs 0 (Composition.inverse r.left.now)))
-    (cond (eqb r.call 72) (Some (Outcomes.of Elements.coeffs 0 (Composition.chain r.left.now)))
-    (cond (eqb r.call 73) (Some (Outcomes.of vector_values 0 (Galilean.translation r.left.now)))
-    (cond (eqb r.call 74) (Some (Outcomes.of vector_values 0 (Galilean.velocity r.left.now)))
-    (cond (eqb r.call 75) (Some (Outcomes.of (λ x. x ∷ []) 0 (Galilean.time r.left.now)))
-    (cond (eqb r.call 76) (Some (Outcomes.of So3.values 0 (Galilean.rotation_quaternion r.left.now)))
-    (cond (eqb r.call 77) (Some (Outcomes.of matrix_values 9 (Generic.rotation_matrix group r.left.now)))
-    (cond (eqb r.call 78) (Some (Outcomes.of (λ s. s) 11 (Galilean.coeffs r.left.now)))
+    cond (eqb r.call 70) (Some (Outcomes.of Elements.coeffs 0 (Composition.compose r.left.now r.right.now (Outcomes.tolerance r))))
+    (cond (eqb r.call 71) (Some (Outcomes.of Elements.coeffs 0 (Composition.inverse r.left.now (Outcomes.tolerance r))))
+    (cond (eqb r.call 72) (Some (Outcomes.of Elements.coeffs 0 (Composition.chain r.left.now (Outcomes.tolerance r))))
+    (cond (eqb r.call 73) (Some (Outcomes.of vector_values 0 (Galilean.translation r.left.now (Outcomes.tolerance r))))
+    (cond (eqb r.call 74) (Some (Outcomes.of vector_values 0 (Galilean.velocity r.left.now (Outcomes.tolerance r))))
+    (cond (eqb r.call 75) (Some (Outcomes.of (λ x. x ∷ []) 0 (Galilean.time r.left.now (Outcomes.tolerance r))))
+    (cond (eqb r.call 76) (Some (Outcomes.of So3.values 0 (Galilean.rotation_quaternion r.left.now (Outcomes.tolerance r))))
+    (cond (eqb r.call 77) (Some (Outcomes.of matrix_values 9 (Generic.rotation_matrix group r.left.now (Outcomes.tolerance r))))
+    (cond (eqb r.call 78) (Some (Outcomes.of (λ s. s) 11 (Galilean.coeffs r.left.now (Outcomes.tolerance r))))
     None))))))))
 
 -- the logarithm of an element of the Galilean group, and what it acts on
 unfoldable pub log_call : Request → Option (List ℕ)
 log_call r =
-    cond (eqb r.call 79) (Some (Outcomes.of Tangents.coeffs 0 (Generic.log group Tangents.coeffs r.left.now)))
-    (cond (eqb r.call 80) (Some (Outcomes.of Tangents.coeffs 0 (Generic.log group Tangents.coeffs r.left.now)))
-    (cond (eqb r.call 81) (Some (Outcomes.of vector_values 0 (Generic.act group r.left.now r.right.now)))
-    (cond (eqb r.call 82) (Some (Outcomes.of matrix_values 9 (Generic.act_jacobian_vector group r.left.now r.right.now)))
-    (cond (eqb r.call 83) (Some (Outcomes.of Elements.coeffs 0 (Generic.normalize group Elements.coeffs r.left.now)))
-    (cond (eqb r.call 84) (Some (Outcomes.of_valid (Generic.is_valid group r.left.now (of_bits binary64 r.extra))))
+    cond (eqb r.call 79) (Some (Outcomes.of Tangents.coeffs 0 (Generic.log group Tangents.coeffs r.left.now (Outcomes.tolerance r))))
+    (cond (eqb r.call 80) (Some (Outcomes.of Tangents.coeffs 0 (Generic.log group Tangents.coeffs r.left.now (Outcomes.tolerance r))))
+    (cond (eqb r.call 81) (Some (Outcomes.of vector_values 0 (Generic.act group r.left.now r.right.now (Outcomes.tolerance r))))
+    (cond (eqb r.call 82) (Some (Outcomes.of matrix_values 9 (Generic.act_jacobian_vector group r.left.now r.right.now (Outcomes.tolerance r))))
+    (cond (eqb r.call 83) (Some (Outcomes.of Elements.coeffs 0 (Generic.normalize group Elements.coeffs r.left.now (Outcomes.tolerance r))))
+    (cond (eqb r.call 84) (Some (Outcomes.of_valid (Generic.is_valid group r.left.now (Outcomes.tolerance r))))
     None)))))
 
 -- a tangent of the Galilean group, and what takes no block
@@ -55,12 +53,12 @@ tangent_call r =
 unfoldable pub matrix_call : Request → Option (List ℕ)
 matrix_call r =
     cond (eqb r.call 91) (Some (Outcomes.of (λ m. m) 36 (Ok (Algebra.generator r.extra))))
-    (cond (eqb r.call 92) (Some (Outcomes.of (λ m. m) 25 (Galilean.matrix r.left.now)))
-    (cond (eqb r.call 93) (Some (Outcomes.of TenRows.values 100 (Generic.adjoint group TenRows.values r.left.now)))
-    (cond (eqb r.call 94) (Some (Outcomes.of TenRows.values 100 (Generic.inverse_jacobian group TenRows.values r.left.now)))
-    (cond (eqb r.call 95) (Some (Outcomes.of TenRows.values 100 (Generic.compose_jacobian_self group TenRows.values r.left.now r.right.now)))
-    (cond (eqb r.call 96) (Some (Outcomes.of TenRows.values 100 (Generic.compose_jacobian_other group TenRows.values r.left.now r.right.now)))
-    (cond (eqb r.call 97) (Some (Outcomes.of (λ m. m) 30 (Generic.act_jacobian_self group (λ m. m) r.left.now r.right.now)))
+    (cond (eqb r.call 92) (Some (Outcomes.of (λ m. m) 25 (Galilean.matrix r.left.now (Outcomes.tolerance r))))
+    (cond (eqb r.call 93) (Some (Outcomes.of TenRows.values 100 (Generic.adjoint group TenRows.values r.left.now (Outcomes.tolerance r))))
+    (cond (eqb r.call 94) (Some (Outcomes.of TenRows.values 100 (Generic.inverse_jacobian group TenRows.values r.left.now (Outcomes.tolerance r))))
+    (cond (eqb r.call 95) (Some (Outcomes.of TenRows.values 100 (Generic.compose_jacobian_self group TenRows.values r.left.now r.right.now (Outcomes.tolerance r))))
+    (cond (eqb r.call 96) (Some (Outcomes.of TenRows.values 100 (Generic.compose_jacobian_other group TenRows.values r.left.now r.right.now (Outcomes.tolerance r))))
+    (cond (eqb r.call 97) (Some (Outcomes.of (λ m. m) 30 (Generic.act_jacobian_self group (λ m. m) r.left.now r.right.now (Outcomes.tolerance r))))
     (cond (eqb r.call 98) (Some (Outcomes.of (λ m. m) 36 (Generic.hat tangents (λ m. m) r.left.now)))
     (cond (eqb r.call 99) (Some (Outcomes.of TenRows.values 100 (Generic.small_adj tangents TenRows.values r.left.now)))
     None))))))))
@@ -68,23 +66,23 @@ matrix_call r =
 -- plus of an element and a tangent, and minus of two elements, from either side
 unfoldable pub plus_call : Request → Option (List ℕ)
 plus_call r =
-    cond (eqb r.call 100) (Some (Outcomes.of Elements.coeffs 0 (Generic.right_plus group tangents Elements.coeffs r.left.now r.right.now)))
-    (cond (eqb r.call 101) (Some (Outcomes.of TenRows.values 100 (Generic.right_plus_jacobian_self group tangents TenRows.values r.left.now r.right.now)))
-    (cond (eqb r.call 102) (Some (Outcomes.of Elements.coeffs 0 (Generic.left_plus group tangents Elements.coeffs r.left.now r.right.now)))
-    (cond (eqb r.call 103) (Some (Outcomes.of TenRows.values 100 (Generic.left_plus_jacobian_self group tangents TenRows.values r.left.now r.right.now)))
-    (cond (eqb r.call 104) (Some (Outcomes.of Tangents.coeffs 0 (Generic.right_minus group Tangents.coeffs r.left.now r.right.now)))
-    (cond (eqb r.call 105) (Some (Outcomes.of Tangents.coeffs 0 (Generic.left_minus group Tangents.coeffs r.left.now r.right.now)))
+    cond (eqb r.call 100) (Some (Outcomes.of Elements.coeffs 0 (Generic.right_plus group tangents Elements.coeffs r.left.now r.right.now (Outcomes.tolerance r))))
+    (cond (eqb r.call 101) (Some (Outcomes.of TenRows.values 100 (Generic.right_plus_jacobian_self group tangents TenRows.values r.left.now r.right.now (Outcomes.tolerance r))))
+    (cond (eqb r.call 102) (Some (Outcomes.of Elements.coeffs 0 (Generic.left_plus group tangents Elements.coeffs r.left.now r.right.now (Outcomes.tolerance r))))
+    (cond (eqb r.call 103) (Some (Outcomes.of TenRows.values 100 (Generic.left_plus_jacobian_self group tangents TenRows.values r.left.now r.right.now (Outcomes.tolerance r))))
+    (cond (eqb r.call 104) (Some (Outcomes.of Tangents.coeffs 0 (Generic.right_minus group Tangents.coeffs r.left.now r.right.now (Outcomes.tolerance r))))
+    (cond (eqb r.call 105) (Some (Outcomes.of Tangents.coeffs 0 (Generic.left_minus group Tangents.coeffs r.left.now r.right.now (Outcomes.tolerance r))))
     None)))))
 
 -- what leads from one element to another; plus and minus of elements by their short names
 unfoldable pub between_call : Request → Option (List ℕ)
 between_call r =
-    cond (eqb r.call 106) (Some (Outcomes.of Elements.coeffs 0 (Generic.between group Elements.coeffs r.left.now r.right.now)))
-    (cond (eqb r.call 107) (Some (Outcomes.of TenRows.values 100 (Generic.between_jacobian_self group TenRows.values TenRows.neg r.left.now r.right.now)))
-    (cond (eqb r.call 108) (Some (Outcomes.of TenRows.values 100 (Generic.compose_jacobian_other group TenRows.values r.left.now r.right.now)))
-    (cond (eqb r.call 109) (Some (Outcomes.of Elements.coeffs 0 (Generic.right_plus group tangents Elements.coeffs r.left.now r.right.now)))
-    (cond (eqb r.call 110) (Some (Outcomes.of TenRows.values 100 (Generic.right_plus_jacobian_self group tangents TenRows.values r.left.now r.right.now)))
-    (cond (eqb r.call 111) (Some (Outcomes.of Tangents.coeffs 0 (Generic.right_minus group Tangents.coeffs r.left.now r.right.now)))
+    cond (eqb r.call 106) (Some (Outcomes.of Elements.coeffs 0 (Generic.between group Elements.coeffs r.left.now r.right.now (Outcomes.tolerance r))))
+    (cond (eqb r.call 107) (Some (Outcomes.of TenRows.values 100 (Generic.between_jacobian_self group TenRows.values TenRows.neg r.left.now r.right.now (Outcomes.tolerance r))))
+    (cond (eqb r.call 108) (Some (Outcomes.of TenRows.values 100 (Generic.compose_jacobian_other group TenRows.values r.left.now r.right.now (Outcomes.tolerance r))))
+    (cond (eqb r.call 109) (Some (Outcomes.of Elements.coeffs 0 (Generic.right_plus group tangents Elements.coeffs r.left.now r.right.now (Outcomes.tolerance r))))
+    (cond (eqb r.call 110) (Some (Outcomes.of TenRows.values 100 (Generic.right_plus_jacobian_self group tangents TenRows.values r.left.now r.right.now (Outcomes.tolerance r))))
+    (cond (eqb r.call 111) (Some (Outcomes.of Tangents.coeffs 0 (Generic.right_minus group Tangents.coeffs r.left.now r.right.now (Outcomes.tolerance r))))
     None)))))
 
 unfoldable pub answer : Request → Option (List ℕ)

@@ -15,16 +15,20 @@ use sgal3::{Element, Tangent};
 fn element_call(r: Request<'_>, out: &mut [u8; 832]) -> Option<usize>
     ensures { Outcomes.Answered result out.old out.new (Requests.element_call r.entry) }
 {
+    let tolerance = r.tolerance();
     match r.call {
-        70 => Some(outcomes::put(out, sgal3_composition::compose(r.left, r.right))),
-        71 => Some(outcomes::put(out, sgal3_composition::inverse(r.left))),
-        72 => Some(outcomes::put(out, sgal3_composition::chain(r.left))),
-        73 => Some(outcomes::put(out, sgal3_blocks::translation(r.left))),
-        74 => Some(outcomes::put(out, sgal3_blocks::velocity(r.left))),
-        75 => Some(outcomes::put(out, sgal3_blocks::time(r.left))),
-        76 => Some(outcomes::put(out, sgal3_blocks::rotation_quaternion(r.left))),
-        77 => Some(outcomes::put(out, manifold_blocks::rotation_matrix::<Element>(r.left))),
-        78 => Some(outcomes::put(out, sgal3_blocks::coeffs(r.left))),
+        70 => Some(outcomes::put(out, sgal3_composition::compose(r.left, r.right, tolerance))),
+        71 => Some(outcomes::put(out, sgal3_composition::inverse(r.left, tolerance))),
+        72 => Some(outcomes::put(out, sgal3_composition::chain(r.left, tolerance))),
+        73 => Some(outcomes::put(out, sgal3_blocks::translation(r.left, tolerance))),
+        74 => Some(outcomes::put(out, sgal3_blocks::velocity(r.left, tolerance))),
+        75 => Some(outcomes::put(out, sgal3_blocks::time(r.left, tolerance))),
+        76 => Some(outcomes::put(out, sgal3_blocks::rotation_quaternion(r.left, tolerance))),
+        77 => Some(outcomes::put(
+            out,
+            manifold_blocks::rotation_matrix::<Element>(r.left, tolerance),
+        )),
+        78 => Some(outcomes::put(out, sgal3_blocks::coeffs(r.left, tolerance))),
         _ => None,
     }
 }
@@ -34,18 +38,25 @@ fn element_call(r: Request<'_>, out: &mut [u8; 832]) -> Option<usize>
 fn log_call(r: Request<'_>, out: &mut [u8; 832]) -> Option<usize>
     ensures { Outcomes.Answered result out.old out.new (Requests.log_call r.entry) }
 {
+    let tolerance = r.tolerance();
     match r.call {
-        79 => Some(outcomes::put(out, manifold_blocks::log::<Element>(r.left))),
-        80 => Some(outcomes::put(out, manifold_blocks::vee::<Element>(r.left))),
-        81 => Some(outcomes::put(out, manifold_blocks::act::<Element>(r.left, r.right))),
+        79 => Some(outcomes::put(out, manifold_blocks::log::<Element>(r.left, tolerance))),
+        80 => Some(outcomes::put(out, manifold_blocks::vee::<Element>(r.left, tolerance))),
+        81 => Some(outcomes::put(
+            out,
+            manifold_blocks::act::<Element>(r.left, r.right, tolerance),
+        )),
         82 => Some(outcomes::put(
             out,
-            manifold_blocks::act_jacobian_vector::<Element>(r.left, r.right),
+            manifold_blocks::act_jacobian_vector::<Element>(r.left, r.right, tolerance),
         )),
-        83 => Some(outcomes::put(out, manifold_blocks::normalize::<Element>(r.left))),
+        83 => Some(outcomes::put(
+            out,
+            manifold_blocks::normalize::<Element>(r.left, tolerance),
+        )),
         84 => Some(outcomes::put_valid(
             out,
-            manifold_blocks::is_valid::<Element>(r.left, words::of_bits(r.extra)),
+            manifold_blocks::is_valid::<Element>(r.left, tolerance),
         )),
         _ => None,
     }
@@ -75,22 +86,26 @@ fn tangent_call(r: Request<'_>, out: &mut [u8; 832]) -> Option<usize>
 fn matrix_call(r: Request<'_>, out: &mut [u8; 832]) -> Option<usize>
     ensures { Outcomes.Answered result out.old out.new (Requests.matrix_call r.entry) }
 {
+    let tolerance = r.tolerance();
     match r.call {
         91 => Some(outcomes::put(out, Ok(Tangent::generator(r.extra as usize)))),
-        92 => Some(outcomes::put(out, sgal3_blocks::matrix(r.left))),
-        93 => Some(outcomes::put(out, manifold_blocks::adjoint::<Element>(r.left))),
-        94 => Some(outcomes::put(out, manifold_blocks::inverse_jacobian::<Element>(r.left))),
+        92 => Some(outcomes::put(out, sgal3_blocks::matrix(r.left, tolerance))),
+        93 => Some(outcomes::put(out, manifold_blocks::adjoint::<Element>(r.left, tolerance))),
+        94 => Some(outcomes::put(
+            out,
+            manifold_blocks::inverse_jacobian::<Element>(r.left, tolerance),
+        )),
         95 => Some(outcomes::put(
             out,
-            manifold_blocks::compose_jacobian_self::<Element>(r.left, r.right),
+            manifold_blocks::compose_jacobian_self::<Element>(r.left, r.right, tolerance),
         )),
         96 => Some(outcomes::put(
             out,
-            manifold_blocks::compose_jacobian_other::<Element>(r.left, r.right),
+            manifold_blocks::compose_jacobian_other::<Element>(r.left, r.right, tolerance),
         )),
         97 => Some(outcomes::put(
             out,
-            manifold_blocks::act_jacobian_self::<Element>(r.left, r.right),
+            manifold_blocks::act_jacobian_self::<Element>(r.left, r.right, tolerance),
         )),
         98 => Some(outcomes::put(out, manifold_blocks::hat::<Tangent>(r.left))),
         99 => Some(outcomes::put(out, manifold_blocks::small_adj::<Tangent>(r.left))),
@@ -103,22 +118,32 @@ fn matrix_call(r: Request<'_>, out: &mut [u8; 832]) -> Option<usize>
 fn plus_call(r: Request<'_>, out: &mut [u8; 832]) -> Option<usize>
     ensures { Outcomes.Answered result out.old out.new (Requests.plus_call r.entry) }
 {
+    let tolerance = r.tolerance();
     match r.call {
-        100 => Some(outcomes::put(out, manifold_blocks::right_plus::<Element>(r.left, r.right))),
+        100 => Some(outcomes::put(
+            out,
+            manifold_blocks::right_plus::<Element>(r.left, r.right, tolerance),
+        )),
         101 => Some(outcomes::put(
             out,
-            manifold_blocks::right_plus_jacobian_self::<Element>(r.left, r.right),
+            manifold_blocks::right_plus_jacobian_self::<Element>(r.left, r.right, tolerance),
         )),
-        102 => Some(outcomes::put(out, manifold_blocks::left_plus::<Element>(r.left, r.right))),
+        102 => Some(outcomes::put(
+            out,
+            manifold_blocks::left_plus::<Element>(r.left, r.right, tolerance),
+        )),
         103 => Some(outcomes::put(
             out,
-            manifold_blocks::left_plus_jacobian_self::<Element>(r.left, r.right),
+            manifold_blocks::left_plus_jacobian_self::<Element>(r.left, r.right, tolerance),
         )),
         104 => Some(outcomes::put(
             out,
-            manifold_blocks::right_minus::<Element>(r.left, r.right),
+            manifold_blocks::right_minus::<Element>(r.left, r.right, tolerance),
         )),
-        105 => Some(outcomes::put(out, manifold_blocks::left_minus::<Element>(r.left, r.right))),
+        105 => Some(outcomes::put(
+            out,
+            manifold_blocks::left_minus::<Element>(r.left, r.right, tolerance),
+        )),
         _ => None,
     }
 }
@@ -128,22 +153,32 @@ fn plus_call(r: Request<'_>, out: &mut [u8; 832]) -> Option<usize>
 fn between_call(r: Request<'_>, out: &mut [u8; 832]) -> Option<usize>
     ensures { Outcomes.Answered result out.old out.new (Requests.between_call r.entry) }
 {
+    let tolerance = r.tolerance();
     match r.call {
-        106 => Some(outcomes::put(out, manifold_blocks::between::<Element>(r.left, r.right))),
+        106 => Some(outcomes::put(
+            out,
+            manifold_blocks::between::<Element>(r.left, r.right, tolerance),
+        )),
         107 => Some(outcomes::put(
             out,
-            manifold_blocks::between_jacobian_self::<Element>(r.left, r.right),
+            manifold_blocks::between_jacobian_self::<Element>(r.left, r.right, tolerance),
         )),
         108 => Some(outcomes::put(
             out,
-            manifold_blocks::between_jacobian_other::<Element>(r.left, r.right),
+            manifold_blocks::between_jacobian_other::<Element>(r.left, r.right, tolerance),
         )),
-        109 => Some(outcomes::put(out, manifold_blocks::plus::<Element>(r.left, r.right))),
+        109 => Some(outcomes::put(
+            out,
+            manifold_blocks::plus::<Element>(r.left, r.right, tolerance),
+        )),
         110 => Some(outcomes::put(
             out,
-            manifold_blocks::plus_jacobian_self::<Element>(r.left, r.right),
+            manifold_blocks::plus_jacobian_self::<Element>(r.left, r.right, tolerance),
         )),
-        111 => Some(outcomes::put(out, manifold_blocks::minus::<Element>(r.left, r.right))),
+        111 => Some(outcomes::put(
+            out,
+            manifold_blocks::minus::<Element>(r.left, r.right, tolerance),
+        )),
         _ => None,
     }
 }

@@ -6,7 +6,7 @@ use mathlib.Core.List.{List}
 use lib.ListN.{take, drop}
 use lib.Ieee.{Float}
 use Rattle.std.specs.Prelude.{Ok, Err}
-use Rattle.checks.specs.Checks.{Check, and_then, both, tolerance, all_finite, check_param_block}
+use Rattle.checks.specs.Checks.{Check, and_then, both, all_finite, check_param_block}
 use Rattle.checks.proofs.Passed.{passed-finite}
 use Rattle.sgal3.specs.Elements as Elements
 use Rattle.sgal3.specs.Elements.{element_of}
@@ -14,11 +14,11 @@ use Rattle.sgal3.specs.declared.Element.{Element}
 use Rattle.element_bytes.specs.Bytes.{values_at}
 use Rattle.element_bytes.proofs.Values.{element-values}
 use Rattle.byte_chain.specs.Steps.{chain_after}
-use Rattle.sgal3_composition.specs.Calls.{Answer, check_element, element_answer, compose_answers, chain_from}
+use Rattle.sgal3_composition.specs.Calls.{Answer, check_element, element_answer, compose_answers, inverse_answer, chain_from}
 use Rattle.sgal3_composition.proofs.Answers.{finished, overflowed}
 use Rattle.handset.specs.Steps.{Finite}
 
-pub answer-finite : (e : Element) → Finite (element_answer e)
+answer-finite : (e : Element) → Finite (element_answer e)
 unfolding Finite
 answer-finite e = go (all_finite (Elements.coeffs e)) refl
   where
@@ -33,10 +33,15 @@ composed-finite (Ok a) (Err s) = tt
 composed-finite (Err r) (Ok b) = tt
 composed-finite (Err r) (Err s) = tt
 
-chain-finite : (n : ℕ) (s : List Float) (held : Answer) → Finite held → Finite (chain_from held n s)
+pub inverse-finite : (a : Answer) → Finite (inverse_answer a)
+unfolding Finite inverse_answer
+inverse-finite (Ok a) = answer-finite (Elements.inverse a)
+inverse-finite (Err r) = tt
+
+chain-finite : (t : Float) (n : ℕ) (s : List Float) (held : Answer) → Finite held → Finite (chain_from t held n s)
 unfolding chain_from
-chain-finite zero s held h = h
-chain-finite (suc n) s held h = chain-finite n (drop 11 s) _ (composed-finite held (check_element (take 11 s) tolerance))
+chain-finite t zero s held h = h
+chain-finite t (suc n) s held h = chain-finite t n (drop 11 s) _ (composed-finite held (check_element (take 11 s) t))
 
 block-finite : (s : List ℕ) (i : ℕ) (t : Float) → Finite (check_element (values_at 11 s i) t)
 unfolding Finite check_element
@@ -46,9 +51,9 @@ block-finite s i t = go (check_param_block (values_at 11 s i) 11 3 t) refl
     go (Ok passed) e = ap all_finite (element-values s i) ∙ passed-finite (values_at 11 s i) 11 3 t e
     go (Err r) e = tt
 
-pub after-finite : (f : List ℕ) (n : ℕ) (s : List ℕ) → Finite (chain_after f n s)
+pub after-finite : (t : Float) (f : List ℕ) (n : ℕ) (s : List ℕ) → Finite (chain_after t f n s)
 unfolding chain_after
-after-finite f n s = chain-finite n (values_at (n * 11) s 0) _ (block-finite f 0 tolerance)
+after-finite t f n s = chain-finite t n (values_at (n * 11) s 0) _ (block-finite f 0 t)
 
 -- what is stored is finite
-pub ruleset finite_values = (after-finite, answer-finite, passed-finite)
+pub ruleset finite_values = (after-finite, inverse-finite)

@@ -1,2 +1,3 @@
 pub mod FiniteValues
 pub mod Outputs
+pub mod Never7

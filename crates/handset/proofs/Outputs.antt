@@ -1,23 +1,24 @@
 -- What an output block of the right length, and of another, makes of an answer. Assumes nothing.
-use Prim.Native.Nat.{ℕ}
+use Prim.Native.Nat.{ℕ, suc, ◌≤◌}
 use mathlib.Core.Path.{◌≡◌, refl, sym, ap, ◌∙◌}
+use mathlib.Core.Bool.{Bool, true, false, cond}
 use mathlib.Core.List.{List, [], ◌∷◌}
 use native.Mathlib.Omega.{arith}
-use borrow.Author.Tests.{eq-eqb, ne_eqb}
+use borrow.Author.Tests.{eq-eqb, ne_eqb, eqb-true}
+use lib.Dec.{eqb}
 use lib.ListN.{length}
+use lib.Ieee.{Float}
 use Rattle.std.specs.Prelude.{Ok, Err}
 use Rattle.checks.specs.Refusals as Refusals
-use Rattle.checks.specs.Checks.{passed, and_then, both, tolerance, check_param_block}
-use Rattle.sgal3.specs.Elements as Elements
+use Rattle.checks.specs.Checks.{passed, and_then, both}
 use Rattle.sgal3.specs.declared.Element.{Element}
 use Rattle.checks.specs.declared.Refusal.{Refusal}
 use Rattle.checks.specs.declared.Refusal.TheVariants.{Length}
 use Rattle.checks.specs.Outcomes.{outcome}
 use Rattle.checks.proofs.Order.{Picked, left, right, picked}
-use Rattle.checks.proofs.Outcomes.{above_zero, not-zero}
+use Rattle.checks.proofs.Outcomes.{not-zero}
 use Rattle.element_bytes.specs.Bytes.{values_at, element_bytes}
 use Rattle.byte_chain.specs.Blocks as Blocks
-use Rattle.byte_chain.proofs.ByteBlocks as ByteBlocks
 use Rattle.byte_chain.proofs.ByteBlocks.{block_of, no_block}
 use Rattle.sgal3_composition.specs.Calls as Calls
 use Rattle.sgal3_composition.specs.Calls.{Answer}
@@ -91,13 +92,30 @@ one : (n m : ℕ) → Refusals.number (Length n m) ≡ 1
 unfolding Refusals.number
 one n m = refl
 
+-- a wrong length stands first in the order of trial, and nothing else stands there
+length-place : (n m : ℕ) → Refusals.place Refusals.tried (Refusals.number (Length n m)) ≡ 0
+unfolding Refusals.place Refusals.tried Refusals.number
+length-place n m = refl
+
+at_head : (k : ℕ) (ks : List ℕ) (n : ℕ) → Refusals.place (k ∷ ks) n ≤ 0 → n ≡ k
+unfolding Refusals.place
+at_head k ks n = go (eqb n k) refl
+  where
+    go : (b : Bool) → eqb n k ≡ b → cond b 0 (suc (Refusals.place ks n)) ≤ 0 → n ≡ k
+    go true e h = eqb-true n k e
+    go false e h = absurd (omega arith)
+
+only-length : (r : Refusal) → Refusals.place Refusals.tried (Refusals.number r) ≤ 0 → Refusals.number r ≡ 1
+unfolding Refusals.tried
+only-length r h = at_head 1 _ (Refusals.number r) h
+
 module _ (n m : ℕ) where
   one-left : (r : Refusal) → Picked (Length n m) r → 1 ≡ Refusals.number (Refusals.earlier (Length n m) r)
   one-left r (left l e) = sym (ap Refusals.number e ∙ one n m)
-  one-left r (right l e) = absurd (omega (arith, one n m, above_zero r))
+  one-left r (right l e) = absurd (omega (arith, rw (length-place n m) at l))
 
   one-right : (r : Refusal) → Picked r (Length n m) → 1 ≡ Refusals.number (Refusals.earlier r (Length n m))
-  one-right r (left l e) = let h : Refusals.number r ≡ 1 = omega (arith, one n m, above_zero r) in sym (ap Refusals.number e ∙ h)
+  one-right r (left l e) = sym (ap Refusals.number e ∙ only-length r (rw (length-place n m) at l))
   one-right r (right l e) = sym (ap Refusals.number e ∙ one n m)
 
   length-left : (f : Element × Element → Answer) (b : Answer) → Refuses (and_then (both (Err (Length n m)) b) f)
@@ -132,26 +150,19 @@ first_block f held e = first-given f held (λ z. omega arith)
 pub ruleset firsts = (first-empty, first-given, first_block)
 
 -- ---- the output of the right length, and an input of another
-pub refused-block : (s out : List ℕ) → length out ≡ 88 → (length s ≡ 88 → ⊥) → Answered (into out (Calls.inverse_answer (Blocks.check_block s))) out out 1
+pub refused-block : (s out : List ℕ) (t : Float) → length out ≡ 88 → (length s ≡ 88 → ⊥) → Answered (into out (Calls.inverse_answer (Blocks.check_block s t))) out out 1
 unfolding Calls.inverse_answer
-refused-block s out o e = refused-length out _ 88 (length s) o (rw (no_block s e))
+refused-block s out t o e = refused-length out _ 88 (length s) o (rw (no_block s t e))
 
 -- the left block of a compose, and the right one
-pub refused-left : (s out : List ℕ) (b : Answer) → length out ≡ 88 → (length s ≡ 88 → ⊥) → Answered (into out (Calls.compose_answers (Blocks.check_block s) b)) out out 1
+pub refused-left : (s out : List ℕ) (t : Float) (b : Answer) → length out ≡ 88 → (length s ≡ 88 → ⊥) → Answered (into out (Calls.compose_answers (Blocks.check_block s t) b)) out out 1
 unfolding Calls.compose_answers
-refused-left s out b o e = rw (right-length out _ o, no_block s e) (one-refused out _ (length-left 88 (length s) _ b))
+refused-left s out t b o e = rw (right-length out _ o, no_block s t e) (one-refused out _ (length-left 88 (length s) _ b))
 
-pub refused-right : (s out : List ℕ) (a : Answer) → length out ≡ 88 → (length s ≡ 88 → ⊥) → Answered (into out (Calls.compose_answers a (Blocks.check_block s))) out out 1
+pub refused-right : (s out : List ℕ) (t : Float) (a : Answer) → length out ≡ 88 → (length s ≡ 88 → ⊥) → Answered (into out (Calls.compose_answers a (Blocks.check_block s t))) out out 1
 unfolding Calls.compose_answers
-refused-right s out a o e = rw (right-length out _ o, no_block s e) (one-refused out _ (length-right 88 (length s) _ a))
+refused-right s out t a o e = rw (right-length out _ o, no_block s t e) (one-refused out _ (length-right 88 (length s) _ a))
 
 -- ---- the inverse
-pub inverse-passed : (s : List ℕ) → length s ≡ 88 → check_param_block (values_at 11 s 0) 11 3 tolerance ≡ passed
-    → Calls.element_answer (Elements.inverse (Elements.element_of (values_at 11 s 0))) ≡ Calls.inverse_answer (Blocks.check_block s)
-unfolding Calls.inverse_answer
-inverse-passed s e p = rw (block_of s e, ByteBlocks.passed (values_at 11 s 0) tolerance p)
-
-pub inverse-refused : (s : List ℕ) (q : Refusal) → length s ≡ 88 → check_param_block (values_at 11 s 0) 11 3 tolerance ≡ Err q
-    → Err q ≡ Calls.inverse_answer (Blocks.check_block s)
-unfolding Calls.inverse_answer
-inverse-refused s q e p = rw (block_of s e, ByteBlocks.refused (values_at 11 s 0) tolerance q p)
+pub inverse-block : (s : List ℕ) (t : Float) → length s ≡ 88 → Calls.inverse_answer (Calls.check_element (values_at 11 s 0) t) ≡ Calls.inverse_answer (Blocks.check_block s t)
+inverse-block s t e = rw (block_of s t e)

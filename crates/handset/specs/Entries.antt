@@ -1,5 +1,5 @@
--- The four C entries: what each answers, and what the output then holds. Definitions only.
-use Rattle.std.specs.Prelude.{ℕ, ◌≡◌, cond, List, eqb, length, Ok, Err}
+-- The C entries, each with a tolerance, and at 1e-6: what each answers, and what the output then holds. Definitions only.
+use Rattle.std.specs.Prelude.{ℕ, ◌≡◌, cond, List, eqb, length, Ok, Err, Float}
 use Rattle.checks.specs.Checks.{Check, passed, and_then, both}
 use Rattle.checks.specs.declared.Refusal.TheVariants.{Length}
 use Rattle.element_bytes.specs.Bytes.{value_bytes}
@@ -30,16 +30,16 @@ check_output out = cond (eqb (length out) 88) passed (Err (Length 88 (length out
 unfoldable pub into : List ℕ → Answer → Answer
 into out answer = and_then (both answer (check_output out)) (λ p. Ok p.0)
 
-unfoldable pub compose : List ℕ → List ℕ → List ℕ → Answer
-compose left right out = into out (Calls.compose_answers (Blocks.check_block left) (Blocks.check_block right))
+unfoldable pub compose : List ℕ → List ℕ → Float → List ℕ → Answer
+compose left right tolerance out = into out (Calls.compose_answers (Blocks.check_block left tolerance) (Blocks.check_block right tolerance))
 
 -- compose with the block held as the left one and as the output
-unfoldable pub compose_in_place : List ℕ → List ℕ → Answer
-compose_in_place held step = compose held step held
+unfoldable pub compose_in_place : List ℕ → List ℕ → Float → Answer
+compose_in_place held step tolerance = compose held step tolerance held
 
-unfoldable pub inverse : List ℕ → List ℕ → Answer
-inverse block out = into out (Calls.inverse_answer (Blocks.check_block block))
+unfoldable pub inverse : List ℕ → Float → List ℕ → Answer
+inverse block tolerance out = into out (Calls.inverse_answer (Blocks.check_block block tolerance))
 
 -- 4,096 blocks of 88 bytes
-unfoldable pub chain : List ℕ → List ℕ → Answer
-chain blocks out = into out (Blocks.chain 360448 blocks)
+unfoldable pub chain : List ℕ → Float → List ℕ → Answer
+chain blocks tolerance out = into out (Blocks.chain 360448 blocks tolerance)

@@ -1,9 +1,13 @@
 // What the firmware calls, by way of handset_c: compose, also in place, inverse and the chain on little-endian byte blocks, an element being
-// 88 bytes. An entry answers 0, or the number of a refusal, and then the output is as it was.
+// 88 bytes. An entry answers 0, or the number of a refusal, and then the output is as it was. Each stands here twice: with the tolerance of the
+// norm check, and at 1e-6.
 #![tactic(auto)]
 
 ghost use Rattle.std.specs.Prelude.{◌≡◌, ◌/◌, length};
+ghost use Rattle.checks.specs.Checks as Checks;
 ghost use Rattle.byte_chain.specs.Steps.{chain_after};
+ghost use Rattle.element_bytes.specs.Bytes.{values_at};
+ghost use Rattle.sgal3_composition.specs.Calls.{check_element, inverse_answer};
 ghost use Rattle.handset.specs.Entries as Entries;
 ghost use Rattle.handset.specs.Steps as Steps;
 
@@ -42,22 +46,43 @@ fn first_or<'a>(first: &'a [u8], held: &'a [u8]) -> &'a [u8]
 // The number of what `chain_blocks` answers, and the answer stored: for compose, for compose in place, where `first` is empty and the output
 // holds the first block, and for the chain. A function of its own, so that no answer goes through memory.
 #[tactic(auto, using(crate::proofs::FiniteValues::finite_values))]
-fn store_chain(first: &[u8], blocks: &[u8], out: &mut [u8]) -> u32
+fn store_chain(first: &[u8], blocks: &[u8], tolerance: f64, out: &mut [u8]) -> u32
     requires out_len { length (Steps.first_or first.now out.old) ≡ 88 }
     requires out_len_2 { length out.old ≡ 88 }
-    ensures { Steps.Stored (chain_after (Steps.first_or first.now out.old) (length blocks.now / 88) blocks.now) out.old out.new result }
+    ensures { Steps.Stored (chain_after tolerance (Steps.first_or first.now out.old) (length blocks.now / 88) blocks.now) out.old out.new result }
 {
     let one = first_or(first, out);
     // a slice of its own, so that the compiler passes the parameter in registers
     let s = &blocks[0..];
-    finish(byte_chain::chain_blocks(one, s), out)
+    finish(byte_chain::chain_blocks(one, s, tolerance), out)
+}
+
+// The element of a block, inverted, or why it is refused.
+#[tactic(auto, unfolding(sgal3_composition::specs::Calls::element_answer, sgal3_composition::specs::Calls::inverse_answer, manifold::specs::Answers::answered), using(byte_chain::proofs::ByteBlocks::first))]
+fn inverse(block: &[u8], tolerance: f64) -> Result<Element, Refusal>
+    requires { length block.now ≡ 88 }
+    ensures { result ≡ inverse_answer (check_element (values_at 11 block.now 0) tolerance) }
+{
+    element_bytes::check_values(block, 0, tolerance)?;
+    manifold::answered(element_bytes::element(block, 0).inverse())
+}
+
+// The number of the inverse, and the inverse stored; a function of its own as `store_chain` is.
+#[tactic(auto, using(crate::proofs::FiniteValues::finite_values))]
+fn store_inverse(block: &[u8], tolerance: f64, out: &mut [u8]) -> u32
+    requires block_len { length block.now ≡ 88 }
+    requires out_len { length out.old ≡ 88 }
+    ensures { Steps.Stored (inverse_answer (check_element (values_at 11 block.now 0) tolerance)) out.old out.new result }
+{
+    let s = &block[0..];
+    finish(inverse(s, tolerance), out)
 }
 
 // The entries return the scope's numbers, as the C interface has them: 1 for a wrong length, before anything is read. A refusal made to be asked for its
 // number would be no plainer.
 #[tactic(auto, using(crate::proofs::Outputs::firsts))]
-pub fn sgal3_compose(left: &[u8], right: &[u8], out: &mut [u8]) -> u32
-    ensures { Entries.Answered (Entries.compose left.now right.now out.old) out.old out.new result }
+pub fn sgal3_compose_within(left: &[u8], right: &[u8], tolerance: f64, out: &mut [u8]) -> u32
+    ensures { Entries.Answered (Entries.compose left.now right.now tolerance out.old) out.old out.new result }
 {
     if out.len() != 88 {
         return 1;
@@ -68,13 +93,13 @@ pub fn sgal3_compose(left: &[u8], right: &[u8], out: &mut [u8]) -> u32
     if right.len() != 88 {
         return 1;
     }
-    store_chain(left, right, out)
+    store_chain(left, right, tolerance, out)
 }
 
 // The step after the element held, stored over it; a refusal leaves it as it was.
 #[tactic(auto, unfolding(crate::specs::Steps::first_or))]
-pub fn sgal3_compose_in_place(held: &mut [u8], step: &[u8]) -> u32
-    ensures { Entries.Answered (Entries.compose_in_place held.old step.now) held.old held.new result }
+pub fn sgal3_compose_in_place_within(held: &mut [u8], step: &[u8], tolerance: f64) -> u32
+    ensures { Entries.Answered (Entries.compose_in_place held.old step.now tolerance) held.old held.new result }
 {
     if held.len() != 88 {
         return 1;
@@ -82,12 +107,11 @@ pub fn sgal3_compose_in_place(held: &mut [u8], step: &[u8]) -> u32
     if step.len() != 88 {
         return 1;
     }
-    store_chain(b"", step, held)
+    store_chain(b"", step, tolerance, held)
 }
 
-#[tactic(auto, unfolding(sgal3_composition::specs::Calls::element_answer, manifold::specs::Answers::answered), using(crate::proofs::FiniteValues::finite_values))]
-pub fn sgal3_inverse(block: &[u8], out: &mut [u8]) -> u32
-    ensures { Entries.Answered (Entries.inverse block.now out.old) out.old out.new result }
+pub fn sgal3_inverse_within(block: &[u8], tolerance: f64, out: &mut [u8]) -> u32
+    ensures { Entries.Answered (Entries.inverse block.now tolerance out.old) out.old out.new result }
 {
     if out.len() != 88 {
         return 1;
@@ -95,18 +119,12 @@ pub fn sgal3_inverse(block: &[u8], out: &mut [u8]) -> u32
     if block.len() != 88 {
         return 1;
     }
-    if let Err(r) = element_bytes::check_values(block, 0) {
-        return r.number();
-    }
-    finish(
-        manifold::answered(element_bytes::element(block, 0).inverse()),
-        out,
-    )
+    store_inverse(block, tolerance, out)
 }
 
 #[tactic(auto, unfolding(crate::specs::Steps::first_or))]
-pub fn sgal3_chain(blocks: &[u8], out: &mut [u8]) -> u32
-    ensures { Entries.Answered (Entries.chain blocks.now out.old) out.old out.new result }
+pub fn sgal3_chain_within(blocks: &[u8], tolerance: f64, out: &mut [u8]) -> u32
+    ensures { Entries.Answered (Entries.chain blocks.now tolerance out.old) out.old out.new result }
 {
     if out.len() != 88 {
         return 1;
@@ -118,6 +136,33 @@ pub fn sgal3_chain(blocks: &[u8], out: &mut [u8]) -> u32
     store_chain(
         b"\x00\x00\x00\x00\x00\x00\x00\x00\x00\x00\x00\x00\x00\x00\x00\x00\x00\x00\x00\x00\x00\x00\x00\x00\x00\x00\x00\x00\x00\x00\xf0\x3f\x00\x00\x00\x00\x00\x00\x00\x00\x00\x00\x00\x00\x00\x00\x00\x00\x00\x00\x00\x00\x00\x00\x00\x00\x00\x00\x00\x00\x00\x00\x00\x00\x00\x00\x00\x00\x00\x00\x00\x00\x00\x00\x00\x00\x00\x00\x00\x00\x00\x00\x00\x00\x00\x00\x00\x00",
         blocks,
+        tolerance,
         out,
     )
+}
+
+// ---- At 1e-6
+
+pub fn sgal3_compose(left: &[u8], right: &[u8], out: &mut [u8]) -> u32
+    ensures { Entries.Answered (Entries.compose left.now right.now Checks.tolerance out.old) out.old out.new result }
+{
+    sgal3_compose_within(left, right, checks::tolerance(), out)
+}
+
+pub fn sgal3_compose_in_place(held: &mut [u8], step: &[u8]) -> u32
+    ensures { Entries.Answered (Entries.compose_in_place held.old step.now Checks.tolerance) held.old held.new result }
+{
+    sgal3_compose_in_place_within(held, step, checks::tolerance())
+}
+
+pub fn sgal3_inverse(block: &[u8], out: &mut [u8]) -> u32
+    ensures { Entries.Answered (Entries.inverse block.now Checks.tolerance out.old) out.old out.new result }
+{
+    sgal3_inverse_within(block, checks::tolerance(), out)
+}
+
+pub fn sgal3_chain(blocks: &[u8], out: &mut [u8]) -> u32
+    ensures { Entries.Answered (Entries.chain blocks.now Checks.tolerance out.old) out.old out.new result }
+{
+    sgal3_chain_within(blocks, checks::tolerance(), out)
 }

@@ -1,7 +1,7 @@
 -- What the calls need of a group: its operations, and how blocks of numbers stand for its elements and tangents. SO(3)'s and SGal(3)'s are in
 -- so3/specs/Group.antt and sgal3/specs/Group.antt. Definitions only.
 use Rattle.std.specs.Prelude.{ℕ, Bool, List, Result, Ok, Float}
-use Rattle.checks.specs.Checks.{Check, and_then, tolerance, check_length, check_values, check_param_block}
+use Rattle.checks.specs.Checks.{Check, and_then, check_length, check_values, check_param_block}
 use Rattle.checks.specs.declared.Refusal.{Refusal}
 use Rattle.linear.specs.declared.Vec3.{Vec3}
 use Rattle.linear.specs.declared.Mat3.{Mat3}
@@ -47,16 +47,16 @@ pub record Tangents (G T J A : Type 0) : Type 0 where
   pub normalized : T → T
 
 -- ---- blocks
-unfoldable pub validate_params : {G T J P : Type 0} → Group G T J P → List Float → Check
-validate_params g s = check_param_block s g.dim g.quaternion tolerance
+unfoldable pub validate_params : {G T J P : Type 0} → Group G T J P → List Float → Float → Check
+validate_params g s tolerance = check_param_block s g.dim g.quaternion tolerance
 
 -- the element of any values: a wrong length alone is refused
 unfoldable pub from_param_slice : {G T J P : Type 0} → Group G T J P → List Float → Result G Refusal
 from_param_slice g s = and_then (check_length s g.dim) (λ _. Ok (g.element_of s))
 
 -- the element of a block, or why the block is refused
-unfoldable pub try_from_param_slice : {G T J P : Type 0} → Group G T J P → List Float → Result G Refusal
-try_from_param_slice g s = and_then (validate_params g s) (λ _. Ok (g.element_of s))
+unfoldable pub try_from_param_slice : {G T J P : Type 0} → Group G T J P → List Float → Float → Result G Refusal
+try_from_param_slice g s tolerance = and_then (validate_params g s tolerance) (λ _. Ok (g.element_of s))
 
 -- the tangent of a block, or why the block is refused
 unfoldable pub try_from_slice : {G T J A : Type 0} → Tangents G T J A → List Float → Result T Refusal

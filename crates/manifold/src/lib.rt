@@ -249,20 +249,20 @@ pub trait LieGroup: Values {
         Ok(Self::element_of(s))
     }
 
-    // Refuses 1 to 3.
+    // Refuses 1, 2, 7 and 3.
     #[tactic(auto, unfolding(crate::specs::Group::validate_params))]
-    fn validate_params(s: &[f64]) -> Result<(), Refusal>
-        ensures { result ≡ Group.validate_params group s.now }
+    fn validate_params(s: &[f64], tolerance: f64) -> Result<(), Refusal>
+        ensures { result ≡ Group.validate_params group s.now tolerance }
     {
-        checks::check_param_block(s, Self::dim(), Self::quaternion(), checks::tolerance())
+        checks::check_param_block(s, Self::dim(), Self::quaternion(), tolerance)
     }
 
     // The element of a block that is not refused.
     #[tactic(auto, unfolding(crate::specs::Group::try_from_param_slice, crate::specs::Group::validate_params), using(checks::proofs::Passed::passed_length))]
-    fn try_from_param_slice(s: &[f64]) -> Result<Self, Refusal>
-        ensures { result ≡ Group.try_from_param_slice group s.now }
+    fn try_from_param_slice(s: &[f64], tolerance: f64) -> Result<Self, Refusal>
+        ensures { result ≡ Group.try_from_param_slice group s.now tolerance }
     {
-        Self::validate_params(s)?;
+        Self::validate_params(s, tolerance)?;
         Ok(Self::element_of(s))
     }
 

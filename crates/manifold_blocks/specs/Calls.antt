@@ -1,7 +1,6 @@
 -- The calls on blocks, of any group and its tangents: each checks its blocks, and answers with the operation of its name or with the refusal that is
 -- tried first. `values` lists the values of what is answered. Definitions only.
-use Rattle.std.specs.Prelude.{Bool, List, get_or, Result, Ok, Float}
-use Rattle.std.specs.Float.{nan}
+use Rattle.std.specs.Prelude.{Bool, List, Result, Ok, Float}
 use Rattle.checks.specs.Checks.{and_then, both, check_values}
 use Rattle.checks.specs.declared.Refusal.{Refusal}
 use Rattle.linear.specs.declared.Vec3.{Vec3}
@@ -16,14 +15,14 @@ vector s = and_then (check_values s 3) (λ _. Ok (vector_at s 0))
 
 module _ {G T J P : Type 0} (g : Group G T J P) where
   -- ---- the element of a block, or of each of two
-  abbrev pub element : List Float → Result G Refusal
-  element s = try_from_param_slice g s
+  abbrev pub element : List Float → Float → Result G Refusal
+  element s tolerance = try_from_param_slice g s tolerance
 
-  abbrev pub elements : List Float → List Float → Result (G × G) Refusal
-  elements left right = both (element left) (element right)
+  abbrev pub elements : List Float → List Float → Float → Result (G × G) Refusal
+  elements left right tolerance = both (element left tolerance) (element right tolerance)
 
-  abbrev pub element_and_vector : List Float → List Float → Result (G × Vec3) Refusal
-  element_and_vector block s = both (element block) (vector s)
+  abbrev pub element_and_vector : List Float → List Float → Float → Result (G × Vec3) Refusal
+  element_and_vector block s tolerance = both (element block tolerance) (vector s)
 
   -- ---- elements
   -- any values, and any tolerance
@@ -33,71 +32,71 @@ module _ {G T J P : Type 0} (g : Group G T J P) where
   unfoldable pub inverse_answer : (G → List Float) → Result G Refusal → Result G Refusal
   inverse_answer values answer = and_then answer (λ a. answered values (g.inverse a))
 
-  unfoldable pub inverse : (G → List Float) → List Float → Result G Refusal
-  inverse values block = inverse_answer values (element block)
+  unfoldable pub inverse : (G → List Float) → List Float → Float → Result G Refusal
+  inverse values block tolerance = inverse_answer values (element block tolerance)
 
   -- of two answers, or of a chain so far and a block
   unfoldable pub compose_answers : (G → List Float) → Result G Refusal → Result G Refusal → Result G Refusal
   compose_answers values left right = and_then (both left right) (λ p. answered values (g.compose p.0 p.1))
 
-  unfoldable pub compose : (G → List Float) → List Float → List Float → Result G Refusal
-  compose values left right = compose_answers values (element left) (element right)
+  unfoldable pub compose : (G → List Float) → List Float → List Float → Float → Result G Refusal
+  compose values left right tolerance = compose_answers values (element left tolerance) (element right tolerance)
 
-  unfoldable pub normalize : (G → List Float) → List Float → Result G Refusal
-  normalize values block = and_then (element block) (λ a. answered values (g.normalize a))
+  unfoldable pub normalize : (G → List Float) → List Float → Float → Result G Refusal
+  normalize values block tolerance = and_then (element block tolerance) (λ a. answered values (g.normalize a))
 
   -- refused where log would leave its series
-  unfoldable pub within_log : List Float → Result G Refusal
-  within_log block = and_then (element block) (λ a. and_then (within (g.leaves_series a)) (λ _. Ok a))
+  unfoldable pub within_log : List Float → Float → Result G Refusal
+  within_log block tolerance = and_then (element block tolerance) (λ a. and_then (within (g.leaves_series a)) (λ _. Ok a))
 
-  unfoldable pub log : (T → List Float) → List Float → Result T Refusal
-  log values block = and_then (within_log block) (λ a. answered values (g.log a))
+  unfoldable pub log : (T → List Float) → List Float → Float → Result T Refusal
+  log values block tolerance = and_then (within_log block tolerance) (λ a. answered values (g.log a))
 
-  unfoldable pub act : List Float → List Float → Result Vec3 Refusal
-  act block s = and_then (element_and_vector block s) (λ p. answered vector_values (g.act p.0 p.1))
+  unfoldable pub act : List Float → List Float → Float → Result Vec3 Refusal
+  act block s tolerance = and_then (element_and_vector block s tolerance) (λ p. answered vector_values (g.act p.0 p.1))
 
-  unfoldable pub rotation_matrix : List Float → Result Mat3 Refusal
-  rotation_matrix block = and_then (element block) (λ a. answered matrix_values (g.rotation_matrix a))
+  unfoldable pub rotation_matrix : List Float → Float → Result Mat3 Refusal
+  rotation_matrix block tolerance = and_then (element block tolerance) (λ a. answered matrix_values (g.rotation_matrix a))
 
   -- ---- their Jacobians
-  unfoldable pub adjoint : (J → List Float) → List Float → Result J Refusal
-  adjoint values block = and_then (element block) (λ a. answered values (g.adjoint a))
+  unfoldable pub adjoint : (J → List Float) → List Float → Float → Result J Refusal
+  adjoint values block tolerance = and_then (element block tolerance) (λ a. answered values (g.adjoint a))
 
-  unfoldable pub inverse_jacobian : (J → List Float) → List Float → Result J Refusal
-  inverse_jacobian values block = and_then (element block) (λ a. answered values (g.inverse_jacobian a))
+  unfoldable pub inverse_jacobian : (J → List Float) → List Float → Float → Result J Refusal
+  inverse_jacobian values block tolerance = and_then (element block tolerance) (λ a. answered values (g.inverse_jacobian a))
 
   -- of compose with respect to its left operand, and to its right one
-  unfoldable pub compose_jacobian_self : (J → List Float) → List Float → List Float → Result J Refusal
-  compose_jacobian_self values left right = and_then (elements left right) (λ p. answered values (g.compose_jacobian_self p.0 p.1))
+  unfoldable pub compose_jacobian_self : (J → List Float) → List Float → List Float → Float → Result J Refusal
+  compose_jacobian_self values left right tolerance = and_then (elements left right tolerance) (λ p. answered values (g.compose_jacobian_self p.0 p.1))
 
-  unfoldable pub compose_jacobian_other : (J → List Float) → List Float → List Float → Result J Refusal
-  compose_jacobian_other values left right = and_then (elements left right) (λ _. answered values g.jacobian_identity)
+  unfoldable pub compose_jacobian_other : (J → List Float) → List Float → List Float → Float → Result J Refusal
+  compose_jacobian_other values left right tolerance = and_then (elements left right tolerance) (λ _. answered values g.jacobian_identity)
 
   -- of act with respect to the element, and to the vector
-  unfoldable pub act_jacobian_self : (P → List Float) → List Float → List Float → Result P Refusal
-  act_jacobian_self values block s = and_then (element_and_vector block s) (λ p. answered values (g.act_jacobian_self p.0 p.1))
+  unfoldable pub act_jacobian_self : (P → List Float) → List Float → List Float → Float → Result P Refusal
+  act_jacobian_self values block s tolerance = and_then (element_and_vector block s tolerance) (λ p. answered values (g.act_jacobian_self p.0 p.1))
 
-  unfoldable pub act_jacobian_vector : List Float → List Float → Result Mat3 Refusal
-  act_jacobian_vector block s = and_then (element_and_vector block s) (λ p. answered matrix_values (g.rotation_matrix p.0))
+  unfoldable pub act_jacobian_vector : List Float → List Float → Float → Result Mat3 Refusal
+  act_jacobian_vector block s tolerance = and_then (element_and_vector block s tolerance) (λ p. answered matrix_values (g.rotation_matrix p.0))
 
   -- ---- between, and minus: refused where the log of the difference would leave its series
-  unfoldable pub between : (G → List Float) → List Float → List Float → Result G Refusal
-  between values left right = and_then (elements left right) (λ p. answered values (Operations.between g p.0 p.1))
+  unfoldable pub between : (G → List Float) → List Float → List Float → Float → Result G Refusal
+  between values left right tolerance = and_then (elements left right tolerance) (λ p. answered values (Operations.between g p.0 p.1))
 
-  unfoldable pub between_jacobian_self : (J → List Float) → (J → J) → List Float → List Float → Result J Refusal
-  between_jacobian_self values neg left right = and_then (elements left right) (λ p. answered values (Operations.between_jacobian_self g neg p.0 p.1))
+  unfoldable pub between_jacobian_self : (J → List Float) → (J → J) → List Float → List Float → Float → Result J Refusal
+  between_jacobian_self values neg left right tolerance = and_then (elements left right tolerance) (λ p. answered values (Operations.between_jacobian_self g neg p.0 p.1))
 
-  unfoldable pub within_right_minus : List Float → List Float → Result (G × G) Refusal
-  within_right_minus left right = and_then (elements left right) (λ p. and_then (within (g.leaves_series (Operations.between g p.1 p.0))) (λ _. Ok p))
+  unfoldable pub within_right_minus : List Float → List Float → Float → Result (G × G) Refusal
+  within_right_minus left right tolerance = and_then (elements left right tolerance) (λ p. and_then (within (g.leaves_series (Operations.between g p.1 p.0))) (λ _. Ok p))
 
-  unfoldable pub within_left_minus : List Float → List Float → Result (G × G) Refusal
-  within_left_minus left right = and_then (elements left right) (λ p. and_then (within (g.leaves_series (Operations.left_between g p.0 p.1))) (λ _. Ok p))
+  unfoldable pub within_left_minus : List Float → List Float → Float → Result (G × G) Refusal
+  within_left_minus left right tolerance = and_then (elements left right tolerance) (λ p. and_then (within (g.leaves_series (Operations.left_between g p.0 p.1))) (λ _. Ok p))
 
-  unfoldable pub right_minus : (T → List Float) → List Float → List Float → Result T Refusal
-  right_minus values left right = and_then (within_right_minus left right) (λ p. answered values (Operations.right_minus g p.0 p.1))
+  unfoldable pub right_minus : (T → List Float) → List Float → List Float → Float → Result T Refusal
+  right_minus values left right tolerance = and_then (within_right_minus left right tolerance) (λ p. answered values (Operations.right_minus g p.0 p.1))
 
-  unfoldable pub left_minus : (T → List Float) → List Float → List Float → Result T Refusal
-  left_minus values left right = and_then (within_left_minus left right) (λ p. answered values (Operations.left_minus g p.0 p.1))
+  unfoldable pub left_minus : (T → List Float) → List Float → List Float → Float → Result T Refusal
+  left_minus values left right tolerance = and_then (within_left_minus left right tolerance) (λ p. answered values (Operations.left_minus g p.0 p.1))
 
 module _ {G T J A : Type 0} (h : Tangents G T J A) where
   -- ---- tangents
@@ -131,20 +130,20 @@ module _ {G T J A : Type 0} (h : Tangents G T J A) where
 
 module _ {G T J P A : Type 0} (g : Group G T J P) (h : Tangents G T J A) where
   -- ---- plus: refused where the exp of its tangent would leave its series
-  abbrev pub element_and_tangent : List Float → List Float → Result (G × T) Refusal
-  element_and_tangent block s = both (element g block) (tangent h s)
+  abbrev pub element_and_tangent : List Float → List Float → Float → Result (G × T) Refusal
+  element_and_tangent block s tolerance = both (element g block tolerance) (tangent h s)
 
-  unfoldable pub within_plus : List Float → List Float → Result (G × T) Refusal
-  within_plus block s = and_then (element_and_tangent block s) (λ p. and_then (within (h.leaves_series p.1)) (λ _. Ok p))
+  unfoldable pub within_plus : List Float → List Float → Float → Result (G × T) Refusal
+  within_plus block s tolerance = and_then (element_and_tangent block s tolerance) (λ p. and_then (within (h.leaves_series p.1)) (λ _. Ok p))
 
-  unfoldable pub right_plus : (G → List Float) → List Float → List Float → Result G Refusal
-  right_plus values block s = and_then (within_plus block s) (λ p. answered values (Operations.right_plus g h p.0 p.1))
+  unfoldable pub right_plus : (G → List Float) → List Float → List Float → Float → Result G Refusal
+  right_plus values block s tolerance = and_then (within_plus block s tolerance) (λ p. answered values (Operations.right_plus g h p.0 p.1))
 
-  unfoldable pub right_plus_jacobian_self : (J → List Float) → List Float → List Float → Result J Refusal
-  right_plus_jacobian_self values block s = and_then (within_plus block s) (λ p. answered values (Operations.right_plus_jacobian_self g h p.0 p.1))
+  unfoldable pub right_plus_jacobian_self : (J → List Float) → List Float → List Float → Float → Result J Refusal
+  right_plus_jacobian_self values block s tolerance = and_then (within_plus block s tolerance) (λ p. answered values (Operations.right_plus_jacobian_self g h p.0 p.1))
 
-  unfoldable pub left_plus : (G → List Float) → List Float → List Float → Result G Refusal
-  left_plus values block s = and_then (within_plus block s) (λ p. answered values (Operations.left_plus g h p.0 p.1))
+  unfoldable pub left_plus : (G → List Float) → List Float → List Float → Float → Result G Refusal
+  left_plus values block s tolerance = and_then (within_plus block s tolerance) (λ p. answered values (Operations.left_plus g h p.0 p.1))
 
-  unfoldable pub left_plus_jacobian_self : (J → List Float) → List Float → List Float → Result J Refusal
-  left_plus_jacobian_self values block s = and_then (within_plus block s) (λ _. answered values g.jacobian_identity)
+  unfoldable pub left_plus_jacobian_self : (J → List Float) → List Float → List Float → Float → Result J Refusal
+  left_plus_jacobian_self values block s tolerance = and_then (within_plus block s tolerance) (λ _. answered values g.jacobian_identity)

@@ -20,19 +20,23 @@ fn vector(s: &[f64]) -> Result<Vec3, Refusal>
 
 // ---- Elements
 
-pub fn elements<G: LieGroup>(left: &[f64], right: &[f64]) -> Result<(G, G), Refusal>
-    ensures { result ≡ Calls.elements G.group left.now right.now }
+pub fn elements<G: LieGroup>(left: &[f64], right: &[f64], tolerance: f64) -> Result<(G, G), Refusal>
+    ensures { result ≡ Calls.elements G.group left.now right.now tolerance }
 {
     checks::both(
-        G::try_from_param_slice(left),
-        G::try_from_param_slice(right),
+        G::try_from_param_slice(left, tolerance),
+        G::try_from_param_slice(right, tolerance),
     )
 }
 
-pub fn element_and_vector<G: LieGroup>(block: &[f64], s: &[f64]) -> Result<(G, Vec3), Refusal>
-    ensures { result ≡ Calls.element_and_vector G.group block.now s.now }
+pub fn element_and_vector<G: LieGroup>(
+    block: &[f64],
+    s: &[f64],
+    tolerance: f64,
+) -> Result<(G, Vec3), Refusal>
+    ensures { result ≡ Calls.element_and_vector G.group block.now s.now tolerance }
 {
-    checks::both(G::try_from_param_slice(block), vector(s))
+    checks::both(G::try_from_param_slice(block, tolerance), vector(s))
 }
 
 // Any values, and any tolerance: refuses a wrong length only.
@@ -45,10 +49,10 @@ pub fn is_valid<G: LieGroup>(block: &[f64], tolerance: f64) -> Result<bool, Refu
 }
 
 #[tactic(auto, unfolding(crate::specs::Calls::inverse))]
-pub fn inverse<G: LieGroup>(block: &[f64]) -> Result<G, Refusal>
-    ensures { result ≡ Calls.inverse G.group G.values block.now }
+pub fn inverse<G: LieGroup>(block: &[f64], tolerance: f64) -> Result<G, Refusal>
+    ensures { result ≡ Calls.inverse G.group G.values block.now tolerance }
 {
-    inverse_answer(G::try_from_param_slice(block))
+    inverse_answer(G::try_from_param_slice(block, tolerance))
 }
 
 // Inverts the answer of a block.
@@ -72,59 +76,59 @@ pub fn compose_answers<G: LieGroup>(
 }
 
 #[tactic(auto, unfolding(crate::specs::Calls::compose))]
-pub fn compose<G: LieGroup>(left: &[f64], right: &[f64]) -> Result<G, Refusal>
-    ensures { result ≡ Calls.compose G.group G.values left.now right.now }
+pub fn compose<G: LieGroup>(left: &[f64], right: &[f64], tolerance: f64) -> Result<G, Refusal>
+    ensures { result ≡ Calls.compose G.group G.values left.now right.now tolerance }
 {
-    let a = G::try_from_param_slice(left);
-    let b = G::try_from_param_slice(right);
+    let a = G::try_from_param_slice(left, tolerance);
+    let b = G::try_from_param_slice(right, tolerance);
     compose_answers(a, b)
 }
 
 #[tactic(auto, unfolding(crate::specs::Calls::normalize))]
-pub fn normalize<G: LieGroup>(block: &[f64]) -> Result<G, Refusal>
-    ensures { result ≡ Calls.normalize G.group G.values block.now }
+pub fn normalize<G: LieGroup>(block: &[f64], tolerance: f64) -> Result<G, Refusal>
+    ensures { result ≡ Calls.normalize G.group G.values block.now tolerance }
 {
-    let a = G::try_from_param_slice(block)?;
+    let a = G::try_from_param_slice(block, tolerance)?;
     manifold::answered(a.normalize())
 }
 
 // The element, if log stays in its series there.
 #[tactic(auto, unfolding(crate::specs::Calls::within_log))]
-pub fn within_log<G: LieGroup>(block: &[f64]) -> Result<G, Refusal>
-    ensures { result ≡ Calls.within_log G.group block.now }
+pub fn within_log<G: LieGroup>(block: &[f64], tolerance: f64) -> Result<G, Refusal>
+    ensures { result ≡ Calls.within_log G.group block.now tolerance }
 {
-    let a = G::try_from_param_slice(block)?;
+    let a = G::try_from_param_slice(block, tolerance)?;
     manifold::within(a.leaves_series())?;
     Ok(a)
 }
 
 #[tactic(auto, unfolding(crate::specs::Calls::log))]
-pub fn log<G: LieGroup>(block: &[f64]) -> Result<G::TangentVector, Refusal>
-    ensures { result ≡ Calls.log G.group G.TangentVector.values block.now }
+pub fn log<G: LieGroup>(block: &[f64], tolerance: f64) -> Result<G::TangentVector, Refusal>
+    ensures { result ≡ Calls.log G.group G.TangentVector.values block.now tolerance }
 {
-    manifold::answered(within_log::<G>(block)?.log())
+    manifold::answered(within_log::<G>(block, tolerance)?.log())
 }
 
 // Vee is log.
-pub fn vee<G: LieGroup>(block: &[f64]) -> Result<G::TangentVector, Refusal>
-    ensures { result ≡ Calls.log G.group G.TangentVector.values block.now }
+pub fn vee<G: LieGroup>(block: &[f64], tolerance: f64) -> Result<G::TangentVector, Refusal>
+    ensures { result ≡ Calls.log G.group G.TangentVector.values block.now tolerance }
 {
-    log::<G>(block)
+    log::<G>(block, tolerance)
 }
 
 #[tactic(auto, unfolding(crate::specs::Calls::act))]
-pub fn act<G: LieGroup>(block: &[f64], vector: &[f64]) -> Result<Vec3, Refusal>
-    ensures { result ≡ Calls.act G.group block.now vector.now }
+pub fn act<G: LieGroup>(block: &[f64], vector: &[f64], tolerance: f64) -> Result<Vec3, Refusal>
+    ensures { result ≡ Calls.act G.group block.now vector.now tolerance }
 {
-    let (a, p) = element_and_vector::<G>(block, vector)?;
+    let (a, p) = element_and_vector::<G>(block, vector, tolerance)?;
     manifold::answered(a.act(p))
 }
 
 #[tactic(auto, unfolding(crate::specs::Calls::rotation_matrix))]
-pub fn rotation_matrix<G: LieGroup>(block: &[f64]) -> Result<Mat3, Refusal>
-    ensures { result ≡ Calls.rotation_matrix G.group block.now }
+pub fn rotation_matrix<G: LieGroup>(block: &[f64], tolerance: f64) -> Result<Mat3, Refusal>
+    ensures { result ≡ Calls.rotation_matrix G.group block.now tolerance }
 {
-    let a = G::try_from_param_slice(block)?;
+    let a = G::try_from_param_slice(block, tolerance)?;
     manifold::answered(a.rotation_matrix())
 }
 
@@ -132,18 +136,21 @@ pub fn rotation_matrix<G: LieGroup>(block: &[f64]) -> Result<Mat3, Refusal>
 // a parameter the contract would be the caller's to state.
 
 #[tactic(auto, unfolding(crate::specs::Calls::adjoint))]
-pub fn adjoint<G: LieGroup>(block: &[f64]) -> Result<G::JacobianMatrix, Refusal>
-    ensures { result ≡ Calls.adjoint G.group G.JacobianMatrix.values block.now }
+pub fn adjoint<G: LieGroup>(block: &[f64], tolerance: f64) -> Result<G::JacobianMatrix, Refusal>
+    ensures { result ≡ Calls.adjoint G.group G.JacobianMatrix.values block.now tolerance }
 {
-    let a = G::try_from_param_slice(block)?;
+    let a = G::try_from_param_slice(block, tolerance)?;
     manifold::answered(a.adjoint())
 }
 
 #[tactic(auto, unfolding(crate::specs::Calls::inverse_jacobian))]
-pub fn inverse_jacobian<G: LieGroup>(block: &[f64]) -> Result<G::JacobianMatrix, Refusal>
-    ensures { result ≡ Calls.inverse_jacobian G.group G.JacobianMatrix.values block.now }
+pub fn inverse_jacobian<G: LieGroup>(
+    block: &[f64],
+    tolerance: f64,
+) -> Result<G::JacobianMatrix, Refusal>
+    ensures { result ≡ Calls.inverse_jacobian G.group G.JacobianMatrix.values block.now tolerance }
 {
-    let a = G::try_from_param_slice(block)?;
+    let a = G::try_from_param_slice(block, tolerance)?;
     manifold::answered(a.inverse_jacobian())
 }
 
@@ -152,10 +159,11 @@ pub fn inverse_jacobian<G: LieGroup>(block: &[f64]) -> Result<G::JacobianMatrix,
 pub fn compose_jacobian_self<G: LieGroup>(
     left: &[f64],
     right: &[f64],
+    tolerance: f64,
 ) -> Result<G::JacobianMatrix, Refusal>
-    ensures { result ≡ Calls.compose_jacobian_self G.group G.JacobianMatrix.values left.now right.now }
+    ensures { result ≡ Calls.compose_jacobian_self G.group G.JacobianMatrix.values left.now right.now tolerance }
 {
-    let (a, b) = elements::<G>(left, right)?;
+    let (a, b) = elements::<G>(left, right, tolerance)?;
     manifold::answered(a.compose_jacobian_self(b))
 }
 
@@ -164,10 +172,11 @@ pub fn compose_jacobian_self<G: LieGroup>(
 pub fn compose_jacobian_other<G: LieGroup>(
     left: &[f64],
     right: &[f64],
+    tolerance: f64,
 ) -> Result<G::JacobianMatrix, Refusal>
-    ensures { result ≡ Calls.compose_jacobian_other G.group G.JacobianMatrix.values left.now right.now }
+    ensures { result ≡ Calls.compose_jacobian_other G.group G.JacobianMatrix.values left.now right.now tolerance }
 {
-    elements::<G>(left, right)?;
+    elements::<G>(left, right, tolerance)?;
     manifold::answered(G::jacobian_identity())
 }
 
@@ -176,19 +185,24 @@ pub fn compose_jacobian_other<G: LieGroup>(
 pub fn act_jacobian_self<G: LieGroup>(
     block: &[f64],
     vector: &[f64],
+    tolerance: f64,
 ) -> Result<G::ActJacobian, Refusal>
-    ensures { result ≡ Calls.act_jacobian_self G.group G.ActJacobian.values block.now vector.now }
+    ensures { result ≡ Calls.act_jacobian_self G.group G.ActJacobian.values block.now vector.now tolerance }
 {
-    let (a, p) = element_and_vector::<G>(block, vector)?;
+    let (a, p) = element_and_vector::<G>(block, vector, tolerance)?;
     manifold::answered(a.act_jacobian_self(p))
 }
 
 // Of act with respect to the vector.
 #[tactic(auto, unfolding(crate::specs::Calls::act_jacobian_vector))]
-pub fn act_jacobian_vector<G: LieGroup>(block: &[f64], vector: &[f64]) -> Result<Mat3, Refusal>
-    ensures { result ≡ Calls.act_jacobian_vector G.group block.now vector.now }
+pub fn act_jacobian_vector<G: LieGroup>(
+    block: &[f64],
+    vector: &[f64],
+    tolerance: f64,
+) -> Result<Mat3, Refusal>
+    ensures { result ≡ Calls.act_jacobian_vector G.group block.now vector.now tolerance }
 {
-    let (a, _) = element_and_vector::<G>(block, vector)?;
+    let (a, _) = element_and_vector::<G>(block, vector, tolerance)?;
     manifold::answered(a.rotation_matrix())
 }
 
@@ -260,10 +274,10 @@ pub fn normalized_tangent<T: Tangent>(tangent: &[f64]) -> Result<T, Refusal>
 // ---- Between, and minus: it refuses 4 where the log of the difference would leave its series
 
 #[tactic(auto, unfolding(crate::specs::Calls::between))]
-pub fn between<G: LieGroup>(left: &[f64], right: &[f64]) -> Result<G, Refusal>
-    ensures { result ≡ Calls.between G.group G.values left.now right.now }
+pub fn between<G: LieGroup>(left: &[f64], right: &[f64], tolerance: f64) -> Result<G, Refusal>
+    ensures { result ≡ Calls.between G.group G.values left.now right.now tolerance }
 {
-    let (a, b) = elements::<G>(left, right)?;
+    let (a, b) = elements::<G>(left, right, tolerance)?;
     manifold::answered(a.between(b))
 }
 
@@ -271,10 +285,11 @@ pub fn between<G: LieGroup>(left: &[f64], right: &[f64]) -> Result<G, Refusal>
 pub fn between_jacobian_self<G: LieGroup>(
     left: &[f64],
     right: &[f64],
+    tolerance: f64,
 ) -> Result<G::JacobianMatrix, Refusal>
-    ensures { result ≡ Calls.between_jacobian_self G.group G.JacobianMatrix.values G.JacobianMatrix.negated left.now right.now }
+    ensures { result ≡ Calls.between_jacobian_self G.group G.JacobianMatrix.values G.JacobianMatrix.negated left.now right.now tolerance }
 {
-    let (a, b) = elements::<G>(left, right)?;
+    let (a, b) = elements::<G>(left, right, tolerance)?;
     manifold::answered(a.between_jacobian_self(b))
 }
 
@@ -282,52 +297,73 @@ pub fn between_jacobian_self<G: LieGroup>(
 pub fn between_jacobian_other<G: LieGroup>(
     left: &[f64],
     right: &[f64],
+    tolerance: f64,
 ) -> Result<G::JacobianMatrix, Refusal>
-    ensures { result ≡ Calls.compose_jacobian_other G.group G.JacobianMatrix.values left.now right.now }
+    ensures { result ≡ Calls.compose_jacobian_other G.group G.JacobianMatrix.values left.now right.now tolerance }
 {
-    compose_jacobian_other::<G>(left, right)
+    compose_jacobian_other::<G>(left, right, tolerance)
 }
 
 // The elements, if the log of their difference stays in its series; on the right, and on the left.
 #[tactic(auto, unfolding(crate::specs::Calls::within_right_minus))]
-pub fn within_right_minus<G: LieGroup>(left: &[f64], right: &[f64]) -> Result<(G, G), Refusal>
-    ensures { result ≡ Calls.within_right_minus G.group left.now right.now }
+pub fn within_right_minus<G: LieGroup>(
+    left: &[f64],
+    right: &[f64],
+    tolerance: f64,
+) -> Result<(G, G), Refusal>
+    ensures { result ≡ Calls.within_right_minus G.group left.now right.now tolerance }
 {
-    let (a, b) = elements::<G>(left, right)?;
+    let (a, b) = elements::<G>(left, right, tolerance)?;
     manifold::within(b.between(a).leaves_series())?;
     Ok((a, b))
 }
 
 #[tactic(auto, unfolding(crate::specs::Calls::within_left_minus))]
-pub fn within_left_minus<G: LieGroup>(left: &[f64], right: &[f64]) -> Result<(G, G), Refusal>
-    ensures { result ≡ Calls.within_left_minus G.group left.now right.now }
+pub fn within_left_minus<G: LieGroup>(
+    left: &[f64],
+    right: &[f64],
+    tolerance: f64,
+) -> Result<(G, G), Refusal>
+    ensures { result ≡ Calls.within_left_minus G.group left.now right.now tolerance }
 {
-    let (a, b) = elements::<G>(left, right)?;
+    let (a, b) = elements::<G>(left, right, tolerance)?;
     manifold::within(a.left_between(b).leaves_series())?;
     Ok((a, b))
 }
 
 #[tactic(auto, unfolding(crate::specs::Calls::right_minus))]
-pub fn right_minus<G: LieGroup>(left: &[f64], right: &[f64]) -> Result<G::TangentVector, Refusal>
-    ensures { result ≡ Calls.right_minus G.group G.TangentVector.values left.now right.now }
+pub fn right_minus<G: LieGroup>(
+    left: &[f64],
+    right: &[f64],
+    tolerance: f64,
+) -> Result<G::TangentVector, Refusal>
+    ensures { result ≡ Calls.right_minus G.group G.TangentVector.values left.now right.now tolerance }
 {
-    let (a, b) = within_right_minus::<G>(left, right)?;
+    let (a, b) = within_right_minus::<G>(left, right, tolerance)?;
     manifold::answered(a.right_minus(b))
 }
 
 #[tactic(auto, unfolding(crate::specs::Calls::left_minus))]
-pub fn left_minus<G: LieGroup>(left: &[f64], right: &[f64]) -> Result<G::TangentVector, Refusal>
-    ensures { result ≡ Calls.left_minus G.group G.TangentVector.values left.now right.now }
+pub fn left_minus<G: LieGroup>(
+    left: &[f64],
+    right: &[f64],
+    tolerance: f64,
+) -> Result<G::TangentVector, Refusal>
+    ensures { result ≡ Calls.left_minus G.group G.TangentVector.values left.now right.now tolerance }
 {
-    let (a, b) = within_left_minus::<G>(left, right)?;
+    let (a, b) = within_left_minus::<G>(left, right, tolerance)?;
     manifold::answered(a.left_minus(b))
 }
 
 // Minus is the one on the right.
-pub fn minus<G: LieGroup>(left: &[f64], right: &[f64]) -> Result<G::TangentVector, Refusal>
-    ensures { result ≡ Calls.right_minus G.group G.TangentVector.values left.now right.now }
+pub fn minus<G: LieGroup>(
+    left: &[f64],
+    right: &[f64],
+    tolerance: f64,
+) -> Result<G::TangentVector, Refusal>
+    ensures { result ≡ Calls.right_minus G.group G.TangentVector.values left.now right.now tolerance }
 {
-    right_minus::<G>(left, right)
+    right_minus::<G>(left, right, tolerance)
 }
 
 // ---- Plus: it refuses 4 where the exp of its tangent would leave its series
@@ -335,11 +371,12 @@ pub fn minus<G: LieGroup>(left: &[f64], right: &[f64]) -> Result<G::TangentVecto
 pub fn element_and_tangent<G: LieGroup>(
     block: &[f64],
     tangent: &[f64],
+    tolerance: f64,
 ) -> Result<(G, G::TangentVector), Refusal>
-    ensures { result ≡ Calls.element_and_tangent G.group G.TangentVector.tangents block.now tangent.now }
+    ensures { result ≡ Calls.element_and_tangent G.group G.TangentVector.tangents block.now tangent.now tolerance }
 {
     checks::both(
-        G::try_from_param_slice(block),
+        G::try_from_param_slice(block, tolerance),
         G::TangentVector::try_from_slice(tangent),
     )
 }
@@ -349,19 +386,20 @@ pub fn element_and_tangent<G: LieGroup>(
 pub fn within_plus<G: LieGroup>(
     block: &[f64],
     tangent: &[f64],
+    tolerance: f64,
 ) -> Result<(G, G::TangentVector), Refusal>
-    ensures { result ≡ Calls.within_plus G.group G.TangentVector.tangents block.now tangent.now }
+    ensures { result ≡ Calls.within_plus G.group G.TangentVector.tangents block.now tangent.now tolerance }
 {
-    let checked = element_and_tangent::<G>(block, tangent)?;
+    let checked = element_and_tangent::<G>(block, tangent, tolerance)?;
     manifold::within(checked.1.leaves_series())?;
     Ok(checked)
 }
 
 #[tactic(auto, unfolding(crate::specs::Calls::right_plus))]
-pub fn right_plus<G: LieGroup>(block: &[f64], tangent: &[f64]) -> Result<G, Refusal>
-    ensures { result ≡ Calls.right_plus G.group G.TangentVector.tangents G.values block.now tangent.now }
+pub fn right_plus<G: LieGroup>(block: &[f64], tangent: &[f64], tolerance: f64) -> Result<G, Refusal>
+    ensures { result ≡ Calls.right_plus G.group G.TangentVector.tangents G.values block.now tangent.now tolerance }
 {
-    let (a, t) = within_plus::<G>(block, tangent)?;
+    let (a, t) = within_plus::<G>(block, tangent, tolerance)?;
     manifold::answered(a.right_plus(t))
 }
 
@@ -369,18 +407,19 @@ pub fn right_plus<G: LieGroup>(block: &[f64], tangent: &[f64]) -> Result<G, Refu
 pub fn right_plus_jacobian_self<G: LieGroup>(
     block: &[f64],
     tangent: &[f64],
+    tolerance: f64,
 ) -> Result<G::JacobianMatrix, Refusal>
-    ensures { result ≡ Calls.right_plus_jacobian_self G.group G.TangentVector.tangents G.JacobianMatrix.values block.now tangent.now }
+    ensures { result ≡ Calls.right_plus_jacobian_self G.group G.TangentVector.tangents G.JacobianMatrix.values block.now tangent.now tolerance }
 {
-    let (a, t) = within_plus::<G>(block, tangent)?;
+    let (a, t) = within_plus::<G>(block, tangent, tolerance)?;
     manifold::answered(a.right_plus_jacobian_self(t))
 }
 
 #[tactic(auto, unfolding(crate::specs::Calls::left_plus))]
-pub fn left_plus<G: LieGroup>(block: &[f64], tangent: &[f64]) -> Result<G, Refusal>
-    ensures { result ≡ Calls.left_plus G.group G.TangentVector.tangents G.values block.now tangent.now }
+pub fn left_plus<G: LieGroup>(block: &[f64], tangent: &[f64], tolerance: f64) -> Result<G, Refusal>
+    ensures { result ≡ Calls.left_plus G.group G.TangentVector.tangents G.values block.now tangent.now tolerance }
 {
-    let (a, t) = within_plus::<G>(block, tangent)?;
+    let (a, t) = within_plus::<G>(block, tangent, tolerance)?;
     manifold::answered(a.left_plus(t))
 }
 
@@ -388,25 +427,27 @@ pub fn left_plus<G: LieGroup>(block: &[f64], tangent: &[f64]) -> Result<G, Refus
 pub fn left_plus_jacobian_self<G: LieGroup>(
     block: &[f64],
     tangent: &[f64],
+    tolerance: f64,
 ) -> Result<G::JacobianMatrix, Refusal>
-    ensures { result ≡ Calls.left_plus_jacobian_self G.group G.TangentVector.tangents G.JacobianMatrix.values block.now tangent.now }
+    ensures { result ≡ Calls.left_plus_jacobian_self G.group G.TangentVector.tangents G.JacobianMatrix.values block.now tangent.now tolerance }
 {
-    within_plus::<G>(block, tangent)?;
+    within_plus::<G>(block, tangent, tolerance)?;
     manifold::answered(G::jacobian_identity())
 }
 
 // Plus is the one on the right.
-pub fn plus<G: LieGroup>(block: &[f64], tangent: &[f64]) -> Result<G, Refusal>
-    ensures { result ≡ Calls.right_plus G.group G.TangentVector.tangents G.values block.now tangent.now }
+pub fn plus<G: LieGroup>(block: &[f64], tangent: &[f64], tolerance: f64) -> Result<G, Refusal>
+    ensures { result ≡ Calls.right_plus G.group G.TangentVector.tangents G.values block.now tangent.now tolerance }
 {
-    right_plus(block, tangent)
+    right_plus(block, tangent, tolerance)
 }
 
 pub fn plus_jacobian_self<G: LieGroup>(
     block: &[f64],
     tangent: &[f64],
+    tolerance: f64,
 ) -> Result<G::JacobianMatrix, Refusal>
-    ensures { result ≡ Calls.right_plus_jacobian_self G.group G.TangentVector.tangents G.JacobianMatrix.values block.now tangent.now }
+    ensures { result ≡ Calls.right_plus_jacobian_self G.group G.TangentVector.tangents G.JacobianMatrix.values block.now tangent.now tolerance }
 {
-    right_plus_jacobian_self::<G>(block, tangent)
+    right_plus_jacobian_self::<G>(block, tangent, tolerance)
 }

@@ -2,13 +2,14 @@
 use Rattle.std.specs.Prelude.{ℕ, ◌≤◌, ◌≡◌, Bool, cond, List, [], ◌++◌, map, length, Option, Some, None, Result, Err, Float}
 use Rattle.std.proofs.lemmas.List.Edits.{sets}
 use Rattle.std.specs.Float.{binary64}
-use Rattle.std.specs.Float.Ieee.{to_bits}
+use Rattle.std.specs.Float.Ieee.{of_bits, to_bits}
 use Rattle.words.specs.Word.{bytes_of, word_bytes}
 use Rattle.checks.specs.Refusals.{Figures, none, lengths, norm}
 use Rattle.checks.specs.Outcomes.{Outcome, outcome}
 use Rattle.checks.specs.Checks.{Check}
 use Rattle.checks.specs.declared.Refusal.{Refusal}
 use Rattle.manifold.specs.Outcomes.{beside, valid}
+use Rattle.outcomes.specs.declared.Request.{Request}
 
 -- ---- words
 unfoldable pub first_figure : Figures → ℕ
@@ -45,6 +46,10 @@ bits values = word_bytes (map (to_bits binary64) values)
 
 unfoldable pub of_values : Outcome Float → List ℕ
 of_values o = bytes (to_bits binary64) o
+
+-- ---- the word besides, as a tolerance
+unfoldable pub tolerance : Request → Float
+tolerance r = of_bits binary64 r.extra
 
 -- ---- what a call answered
 unfoldable pub of_check : Check → List ℕ

@@ -11,14 +11,23 @@ use checks::Refusal;
 use linear::{Mat3, Vec3};
 use manifold::Values;
 
-// The number of a call, its two blocks, and what some calls take besides. The number is the format's own: an enum of the calls would list them a
-// second time.
+// The number of a call, its two blocks, and a word besides: the bits of a tolerance, or of a generator its place. The number is the format's own: an
+// enum of the calls would list them a second time.
 #[derive(Clone, Copy)]
 pub struct Request<'a> {
     pub call: u64,
     pub left: &'a [f64],
     pub right: &'a [f64],
     pub extra: u64,
+}
+
+impl Request<'_> {
+    #[tactic(auto, unfolding(crate::specs::Outcomes::tolerance))]
+    pub fn tolerance(self) -> f64
+        ensures { result ≡ Outcomes.tolerance self.entry }
+    {
+        words::of_bits(self.extra)
+    }
 }
 
 // ---- Words. An outcome has two figures; a refusal with fewer has 0 there, as the format says.
@@ -33,7 +42,7 @@ fn first_figure(r: Refusal) -> u64
             actual: _,
         } => expected as u64,
         Refusal::NotUnit(norm) => words::to_bits(norm),
-        Refusal::NotFinite | Refusal::Turn | Refusal::Overflow => 0,
+        Refusal::NotFinite | Refusal::Turn | Refusal::Overflow | Refusal::Tolerance => 0,
     }
 }
 
@@ -46,7 +55,11 @@ fn second_figure(r: Refusal) -> u64
             expected: _,
             actual,
         } => actual as u64,
-        Refusal::NotUnit(_) | Refusal::NotFinite | Refusal::Turn | Refusal::Overflow => 0,
+        Refusal::NotUnit(_)
+        | Refusal::NotFinite
+        | Refusal::Turn
+        | Refusal::Overflow
+        | Refusal::Tolerance => 0,
     }
 }
 

@@ -8,7 +8,7 @@ use lib.Seq.{sets, sets-eq, take_at, length-sets}
 use Rattle.checks.specs.Refusals.{number}
 use Rattle.checks.specs.Outcomes.{outcome}
 use Rattle.checks.specs.declared.Refusal.{Refusal}
-use Rattle.checks.specs.declared.Refusal.TheVariants.{Length, NotFinite, NotUnit, Turn, Overflow}
+use Rattle.checks.specs.declared.Refusal.TheVariants.{Length, NotFinite, NotUnit, Turn, Overflow, Tolerance}
 use Rattle.checks.proofs.Outcomes.{not-zero}
 use Rattle.sgal3.specs.Elements.{coeffs}
 use Rattle.sgal3.specs.declared.Element.{Element}
@@ -26,6 +26,7 @@ number-below NotFinite = omega arith
 number-below (NotUnit x) = omega arith
 number-below Turn = omega arith
 number-below Overflow = omega arith
+number-below Tolerance = omega arith
 
 pub done-text : (e : Element) → text (Ok e) ≡ lines 0 (coeffs e)
 unfolding text element outcome

@@ -8,6 +8,7 @@ use borrow.Author.Tests.{ltb-true, ltb-false}
 use lib.Dec.{ltb}
 use lib.ListN.{length, take}
 use lib.Seq.{take_all, length-take-le}
+use Rattle.checks.specs.Checks.{tolerance}
 use Rattle.checks.specs.Refusals.{number}
 use Rattle.checks.specs.declared.Refusal.TheVariants.{Length}
 use Rattle.byte_chain.proofs.Chains as Chains
@@ -17,7 +18,7 @@ use Rattle.report.proofs.Printed.{refused-text}
 
 too_long : (s : List ℕ) → 65472 < length s → report_of s ≡ refusal 1
 unfolding report_of number
-too_long s h = rw (Chains.too_long 65472 s h) (refused-text (Length 65472 (length s)))
+too_long s h = rw (Chains.too_long tolerance 65472 s h) (refused-text (Length 65472 (length s)))
 
 -- whatever number of bytes above the longest chain's is read
 pub enough : (m : ℕ) (s : List ℕ) → 65472 < m → report_of (take m s) ≡ report_of s

@@ -27,5 +27,5 @@ fn put_answer(out: &mut [u8; 220], answer: Result<Element, Refusal>) -> usize
 pub fn report(input: &[u8], out: &mut [u8; 220]) -> usize
     ensures { Text.Written result out.new (Text.report_of input.now) }
 {
-    put_answer(out, byte_chain::chain(input, 65472))
+    put_answer(out, byte_chain::chain(input, 65472, checks::tolerance()))
 }

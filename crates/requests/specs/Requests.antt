@@ -12,8 +12,8 @@ use Rattle.galilean_requests.specs.Requests as Galilean
 -- the checks of a block, and an element as given
 unfoldable pub check_call : Request → Option (List ℕ)
 check_call r =
-    cond (eqb r.call 0) (Some (Outcomes.of_check (Checks.validate_sgal3_params r.left.now)))
-    (cond (eqb r.call 1) (Some (Outcomes.of_check (Checks.validate_so3_params r.left.now)))
+    cond (eqb r.call 0) (Some (Outcomes.of_check (Checks.validate_sgal3_params r.left.now (Outcomes.tolerance r))))
+    (cond (eqb r.call 1) (Some (Outcomes.of_check (Checks.validate_so3_params r.left.now (Outcomes.tolerance r))))
     (cond (eqb r.call 2) (Some (Outcomes.of Elements.coeffs 0 (from_param_slice group r.left.now)))
     None))
 

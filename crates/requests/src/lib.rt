@@ -15,8 +15,8 @@ fn check_call(r: Request<'_>, out: &mut [u8; 832]) -> Option<usize>
     ensures { Outcomes.Answered result out.old out.new (Requests.check_call r.entry) }
 {
     match r.call {
-        0 => Some(outcomes::put_check(out, sgal3::Element::validate_params(r.left))),
-        1 => Some(outcomes::put_check(out, so3::Element::validate_params(r.left))),
+        0 => Some(outcomes::put_check(out, sgal3::Element::validate_params(r.left, r.tolerance()))),
+        1 => Some(outcomes::put_check(out, so3::Element::validate_params(r.left, r.tolerance()))),
         2 => Some(outcomes::put(out, sgal3::Element::from_param_slice(r.left))),
         _ => None,
     }

@@ -1,7 +1,6 @@
 -- What a request on rotations is answered, as bytes: the calls by their numbers, none where there is no such call. Definitions only.
 use Rattle.std.specs.Prelude.{ℕ, cond, List, eqb, ltb, length, get_or, Option, Some, None}
-use Rattle.std.specs.Float.{nan, binary64}
-use Rattle.std.specs.Float.Ieee.{of_bits}
+use Rattle.std.specs.Float.{nan}
 use Rattle.linear.specs.Matrices as Matrices
 use Rattle.manifold.specs.Answers.{answered, vector_values, matrix_values}
 use Rattle.manifold_blocks.specs.Calls as Generic
@@ -16,33 +15,33 @@ use Rattle.outcomes.specs.declared.Request.{Request}
 unfoldable pub quaternion_call : Request → Option (List ℕ)
 quaternion_call r =
     cond (eqb (length r.left.now) 4)
-    (Some (Outcomes.of Elements.values 0 (Rotations.try_from_quaternion_wxyz (get_or r.left.now 0 nan) (get_or r.left.now 1 nan) (get_or r.left.now 2 nan) (get_or r.left.now 3 nan))))
+    (Some (Outcomes.of Elements.values 0 (Rotations.try_from_quaternion_wxyz (get_or r.left.now 0 nan) (get_or r.left.now 1 nan) (get_or r.left.now 2 nan) (get_or r.left.now 3 nan) (Outcomes.tolerance r))))
     None
 
 -- a rotation, and two composed
 unfoldable pub rotation_call : Request → Option (List ℕ)
 rotation_call r =
     cond (eqb r.call 10) (quaternion_call r)
-    (cond (eqb r.call 11) (Some (Outcomes.of_valid (Generic.is_valid group r.left.now (of_bits binary64 r.extra))))
-    (cond (eqb r.call 12) (Some (Outcomes.of matrix_values 9 (Generic.rotation_matrix group r.left.now)))
-    (cond (eqb r.call 13) (Some (Outcomes.of Elements.values 0 (Generic.inverse group Elements.values r.left.now)))
-    (cond (eqb r.call 14) (Some (Outcomes.of matrix_values 9 (Generic.inverse_jacobian group matrix_values r.left.now)))
-    (cond (eqb r.call 15) (Some (Outcomes.of Elements.values 0 (Generic.compose group Elements.values r.left.now r.right.now)))
-    (cond (eqb r.call 16) (Some (Outcomes.of matrix_values 9 (Generic.compose_jacobian_self group matrix_values r.left.now r.right.now)))
-    (cond (eqb r.call 17) (Some (Outcomes.of matrix_values 9 (Generic.compose_jacobian_other group matrix_values r.left.now r.right.now)))
+    (cond (eqb r.call 11) (Some (Outcomes.of_valid (Generic.is_valid group r.left.now (Outcomes.tolerance r))))
+    (cond (eqb r.call 12) (Some (Outcomes.of matrix_values 9 (Generic.rotation_matrix group r.left.now (Outcomes.tolerance r))))
+    (cond (eqb r.call 13) (Some (Outcomes.of Elements.values 0 (Generic.inverse group Elements.values r.left.now (Outcomes.tolerance r))))
+    (cond (eqb r.call 14) (Some (Outcomes.of matrix_values 9 (Generic.inverse_jacobian group matrix_values r.left.now (Outcomes.tolerance r))))
+    (cond (eqb r.call 15) (Some (Outcomes.of Elements.values 0 (Generic.compose group Elements.values r.left.now r.right.now (Outcomes.tolerance r))))
+    (cond (eqb r.call 16) (Some (Outcomes.of matrix_values 9 (Generic.compose_jacobian_self group matrix_values r.left.now r.right.now (Outcomes.tolerance r))))
+    (cond (eqb r.call 17) (Some (Outcomes.of matrix_values 9 (Generic.compose_jacobian_other group matrix_values r.left.now r.right.now (Outcomes.tolerance r))))
     None)))))))
 
 -- the logarithm of a rotation, and what a rotation acts on
 unfoldable pub rotation_log_call : Request → Option (List ℕ)
 rotation_log_call r =
-    cond (eqb r.call 18) (Some (Outcomes.of Tangents.values 0 (Generic.log group Tangents.values r.left.now)))
-    (cond (eqb r.call 19) (Some (Outcomes.of Tangents.values 0 (Generic.log group Tangents.values r.left.now)))
-    (cond (eqb r.call 20) (Some (Outcomes.of matrix_values 9 (Rotations.log_jacobian r.left.now)))
-    (cond (eqb r.call 21) (Some (Outcomes.of vector_values 0 (Generic.act group r.left.now r.right.now)))
-    (cond (eqb r.call 22) (Some (Outcomes.of matrix_values 9 (Generic.act_jacobian_self group matrix_values r.left.now r.right.now)))
-    (cond (eqb r.call 23) (Some (Outcomes.of matrix_values 9 (Generic.act_jacobian_vector group r.left.now r.right.now)))
-    (cond (eqb r.call 24) (Some (Outcomes.of matrix_values 9 (Generic.adjoint group matrix_values r.left.now)))
-    (cond (eqb r.call 25) (Some (Outcomes.of Elements.values 0 (Generic.normalize group Elements.values r.left.now)))
+    cond (eqb r.call 18) (Some (Outcomes.of Tangents.values 0 (Generic.log group Tangents.values r.left.now (Outcomes.tolerance r))))
+    (cond (eqb r.call 19) (Some (Outcomes.of Tangents.values 0 (Generic.log group Tangents.values r.left.now (Outcomes.tolerance r))))
+    (cond (eqb r.call 20) (Some (Outcomes.of matrix_values 9 (Rotations.log_jacobian r.left.now (Outcomes.tolerance r))))
+    (cond (eqb r.call 21) (Some (Outcomes.of vector_values 0 (Generic.act group r.left.now r.right.now (Outcomes.tolerance r))))
+    (cond (eqb r.call 22) (Some (Outcomes.of matrix_values 9 (Generic.act_jacobian_self group matrix_values r.left.now r.right.now (Outcomes.tolerance r))))
+    (cond (eqb r.call 23) (Some (Outcomes.of matrix_values 9 (Generic.act_jacobian_vector group r.left.now r.right.now (Outcomes.tolerance r))))
+    (cond (eqb r.call 24) (Some (Outcomes.of matrix_values 9 (Generic.adjoint group matrix_values r.left.now (Outcomes.tolerance r))))
+    (cond (eqb r.call 25) (Some (Outcomes.of Elements.values 0 (Generic.normalize group Elements.values r.left.now (Outcomes.tolerance r))))
     None)))))))
 
 -- the exponential of a tangent of the rotations, and its Jacobians
@@ -72,37 +71,37 @@ rotation_tangent_call r =
 -- plus of a rotation and a tangent, from either side
 unfoldable pub rotation_plus_call : Request → Option (List ℕ)
 rotation_plus_call r =
-    cond (eqb r.call 40) (Some (Outcomes.of Elements.values 0 (Generic.right_plus group tangents Elements.values r.left.now r.right.now)))
-    (cond (eqb r.call 41) (Some (Outcomes.of matrix_values 9 (Generic.right_plus_jacobian_self group tangents matrix_values r.left.now r.right.now)))
-    (cond (eqb r.call 42) (Some (Outcomes.of matrix_values 9 (Rotations.right_plus_jacobian_tangent r.left.now r.right.now)))
-    (cond (eqb r.call 43) (Some (Outcomes.of Elements.values 0 (Generic.left_plus group tangents Elements.values r.left.now r.right.now)))
-    (cond (eqb r.call 44) (Some (Outcomes.of matrix_values 9 (Rotations.left_plus_jacobian_tangent r.left.now r.right.now)))
-    (cond (eqb r.call 45) (Some (Outcomes.of matrix_values 9 (Generic.left_plus_jacobian_self group tangents matrix_values r.left.now r.right.now)))
+    cond (eqb r.call 40) (Some (Outcomes.of Elements.values 0 (Generic.right_plus group tangents Elements.values r.left.now r.right.now (Outcomes.tolerance r))))
+    (cond (eqb r.call 41) (Some (Outcomes.of matrix_values 9 (Generic.right_plus_jacobian_self group tangents matrix_values r.left.now r.right.now (Outcomes.tolerance r))))
+    (cond (eqb r.call 42) (Some (Outcomes.of matrix_values 9 (Rotations.right_plus_jacobian_tangent r.left.now r.right.now (Outcomes.tolerance r))))
+    (cond (eqb r.call 43) (Some (Outcomes.of Elements.values 0 (Generic.left_plus group tangents Elements.values r.left.now r.right.now (Outcomes.tolerance r))))
+    (cond (eqb r.call 44) (Some (Outcomes.of matrix_values 9 (Rotations.left_plus_jacobian_tangent r.left.now r.right.now (Outcomes.tolerance r))))
+    (cond (eqb r.call 45) (Some (Outcomes.of matrix_values 9 (Generic.left_plus_jacobian_self group tangents matrix_values r.left.now r.right.now (Outcomes.tolerance r))))
     None)))))
 
 -- minus of two rotations, from either side
 unfoldable pub rotation_minus_call : Request → Option (List ℕ)
 rotation_minus_call r =
-    cond (eqb r.call 46) (Some (Outcomes.of Tangents.values 0 (Generic.right_minus group Tangents.values r.left.now r.right.now)))
-    (cond (eqb r.call 47) (Some (Outcomes.of matrix_values 9 (Rotations.right_minus_jacobian_self r.left.now r.right.now)))
-    (cond (eqb r.call 48) (Some (Outcomes.of matrix_values 9 (Rotations.right_minus_jacobian_other r.left.now r.right.now)))
-    (cond (eqb r.call 49) (Some (Outcomes.of Tangents.values 0 (Generic.left_minus group Tangents.values r.left.now r.right.now)))
-    (cond (eqb r.call 50) (Some (Outcomes.of matrix_values 9 (Rotations.left_minus_jacobian_self r.left.now r.right.now)))
-    (cond (eqb r.call 51) (Some (Outcomes.of matrix_values 9 (Rotations.left_minus_jacobian_other r.left.now r.right.now)))
+    cond (eqb r.call 46) (Some (Outcomes.of Tangents.values 0 (Generic.right_minus group Tangents.values r.left.now r.right.now (Outcomes.tolerance r))))
+    (cond (eqb r.call 47) (Some (Outcomes.of matrix_values 9 (Rotations.right_minus_jacobian_self r.left.now r.right.now (Outcomes.tolerance r))))
+    (cond (eqb r.call 48) (Some (Outcomes.of matrix_values 9 (Rotations.right_minus_jacobian_other r.left.now r.right.now (Outcomes.tolerance r))))
+    (cond (eqb r.call 49) (Some (Outcomes.of Tangents.values 0 (Generic.left_minus group Tangents.values r.left.now r.right.now (Outcomes.tolerance r))))
+    (cond (eqb r.call 50) (Some (Outcomes.of matrix_values 9 (Rotations.left_minus_jacobian_self r.left.now r.right.now (Outcomes.tolerance r))))
+    (cond (eqb r.call 51) (Some (Outcomes.of matrix_values 9 (Rotations.left_minus_jacobian_other r.left.now r.right.now (Outcomes.tolerance r))))
     None)))))
 
 -- what leads from one rotation to another; plus and minus of rotations by their short names
 unfoldable pub rotation_between_call : Request → Option (List ℕ)
 rotation_between_call r =
-    cond (eqb r.call 52) (Some (Outcomes.of Elements.values 0 (Generic.between group Elements.values r.left.now r.right.now)))
-    (cond (eqb r.call 53) (Some (Outcomes.of matrix_values 9 (Generic.between_jacobian_self group matrix_values Matrices.neg r.left.now r.right.now)))
-    (cond (eqb r.call 54) (Some (Outcomes.of matrix_values 9 (Generic.compose_jacobian_other group matrix_values r.left.now r.right.now)))
-    (cond (eqb r.call 55) (Some (Outcomes.of Elements.values 0 (Generic.right_plus group tangents Elements.values r.left.now r.right.now)))
-    (cond (eqb r.call 56) (Some (Outcomes.of matrix_values 9 (Generic.right_plus_jacobian_self group tangents matrix_values r.left.now r.right.now)))
-    (cond (eqb r.call 57) (Some (Outcomes.of matrix_values 9 (Rotations.right_plus_jacobian_tangent r.left.now r.right.now)))
-    (cond (eqb r.call 58) (Some (Outcomes.of Tangents.values 0 (Generic.right_minus group Tangents.values r.left.now r.right.now)))
-    (cond (eqb r.call 59) (Some (Outcomes.of matrix_values 9 (Rotations.right_minus_jacobian_self r.left.now r.right.now)))
-    (cond (eqb r.call 60) (Some (Outcomes.of matrix_values 9 (Rotations.right_minus_jacobian_other r.left.now r.right.now)))
+    cond (eqb r.call 52) (Some (Outcomes.of Elements.values 0 (Generic.between group Elements.values r.left.now r.right.now (Outcomes.tolerance r))))
+    (cond (eqb r.call 53) (Some (Outcomes.of matrix_values 9 (Generic.between_jacobian_self group matrix_values Matrices.neg r.left.now r.right.now (Outcomes.tolerance r))))
+    (cond (eqb r.call 54) (Some (Outcomes.of matrix_values 9 (Generic.compose_jacobian_other group matrix_values r.left.now r.right.now (Outcomes.tolerance r))))
+    (cond (eqb r.call 55) (Some (Outcomes.of Elements.values 0 (Generic.right_plus group tangents Elements.values r.left.now r.right.now (Outcomes.tolerance r))))
+    (cond (eqb r.call 56) (Some (Outcomes.of matrix_values 9 (Generic.right_plus_jacobian_self group tangents matrix_values r.left.now r.right.now (Outcomes.tolerance r))))
+    (cond (eqb r.call 57) (Some (Outcomes.of matrix_values 9 (Rotations.right_plus_jacobian_tangent r.left.now r.right.now (Outcomes.tolerance r))))
+    (cond (eqb r.call 58) (Some (Outcomes.of Tangents.values 0 (Generic.right_minus group Tangents.values r.left.now r.right.now (Outcomes.tolerance r))))
+    (cond (eqb r.call 59) (Some (Outcomes.of matrix_values 9 (Rotations.right_minus_jacobian_self r.left.now r.right.now (Outcomes.tolerance r))))
+    (cond (eqb r.call 60) (Some (Outcomes.of matrix_values 9 (Rotations.right_minus_jacobian_other r.left.now r.right.now (Outcomes.tolerance r))))
     None))))))))
 
 unfoldable pub answer : Request → Option (List ℕ)

@@ -15,23 +15,33 @@ use so3::{Element, Tangent};
 fn rotation_call(r: Request<'_>, out: &mut [u8; 832]) -> Option<usize>
     ensures { Outcomes.Answered result out.old out.new (Requests.rotation_call r.entry) }
 {
+    let tolerance = r.tolerance();
     match r.call {
         10 => quaternion_call(r, out),
         11 => Some(outcomes::put_valid(
             out,
-            manifold_blocks::is_valid::<Element>(r.left, words::of_bits(r.extra)),
+            manifold_blocks::is_valid::<Element>(r.left, tolerance),
         )),
-        12 => Some(outcomes::put(out, manifold_blocks::rotation_matrix::<Element>(r.left))),
-        13 => Some(outcomes::put(out, manifold_blocks::inverse::<Element>(r.left))),
-        14 => Some(outcomes::put(out, manifold_blocks::inverse_jacobian::<Element>(r.left))),
-        15 => Some(outcomes::put(out, manifold_blocks::compose::<Element>(r.left, r.right))),
+        12 => Some(outcomes::put(
+            out,
+            manifold_blocks::rotation_matrix::<Element>(r.left, tolerance),
+        )),
+        13 => Some(outcomes::put(out, manifold_blocks::inverse::<Element>(r.left, tolerance))),
+        14 => Some(outcomes::put(
+            out,
+            manifold_blocks::inverse_jacobian::<Element>(r.left, tolerance),
+        )),
+        15 => Some(outcomes::put(
+            out,
+            manifold_blocks::compose::<Element>(r.left, r.right, tolerance),
+        )),
         16 => Some(outcomes::put(
             out,
-            manifold_blocks::compose_jacobian_self::<Element>(r.left, r.right),
+            manifold_blocks::compose_jacobian_self::<Element>(r.left, r.right, tolerance),
         )),
         17 => Some(outcomes::put(
             out,
-            manifold_blocks::compose_jacobian_other::<Element>(r.left, r.right),
+            manifold_blocks::compose_jacobian_other::<Element>(r.left, r.right, tolerance),
         )),
         _ => None,
     }
@@ -42,21 +52,28 @@ fn rotation_call(r: Request<'_>, out: &mut [u8; 832]) -> Option<usize>
 fn rotation_log_call(r: Request<'_>, out: &mut [u8; 832]) -> Option<usize>
     ensures { Outcomes.Answered result out.old out.new (Requests.rotation_log_call r.entry) }
 {
+    let tolerance = r.tolerance();
     match r.call {
-        18 => Some(outcomes::put(out, manifold_blocks::log::<Element>(r.left))),
-        19 => Some(outcomes::put(out, manifold_blocks::vee::<Element>(r.left))),
-        20 => Some(outcomes::put(out, so3_blocks::log_jacobian(r.left))),
-        21 => Some(outcomes::put(out, manifold_blocks::act::<Element>(r.left, r.right))),
+        18 => Some(outcomes::put(out, manifold_blocks::log::<Element>(r.left, tolerance))),
+        19 => Some(outcomes::put(out, manifold_blocks::vee::<Element>(r.left, tolerance))),
+        20 => Some(outcomes::put(out, so3_blocks::log_jacobian(r.left, tolerance))),
+        21 => Some(outcomes::put(
+            out,
+            manifold_blocks::act::<Element>(r.left, r.right, tolerance),
+        )),
         22 => Some(outcomes::put(
             out,
-            manifold_blocks::act_jacobian_self::<Element>(r.left, r.right),
+            manifold_blocks::act_jacobian_self::<Element>(r.left, r.right, tolerance),
         )),
         23 => Some(outcomes::put(
             out,
-            manifold_blocks::act_jacobian_vector::<Element>(r.left, r.right),
+            manifold_blocks::act_jacobian_vector::<Element>(r.left, r.right, tolerance),
         )),
-        24 => Some(outcomes::put(out, manifold_blocks::adjoint::<Element>(r.left))),
-        25 => Some(outcomes::put(out, manifold_blocks::normalize::<Element>(r.left))),
+        24 => Some(outcomes::put(out, manifold_blocks::adjoint::<Element>(r.left, tolerance))),
+        25 => Some(outcomes::put(
+            out,
+            manifold_blocks::normalize::<Element>(r.left, tolerance),
+        )),
         _ => None,
     }
 }
@@ -106,21 +123,31 @@ fn rotation_tangent_call(r: Request<'_>, out: &mut [u8; 832]) -> Option<usize>
 fn rotation_plus_call(r: Request<'_>, out: &mut [u8; 832]) -> Option<usize>
     ensures { Outcomes.Answered result out.old out.new (Requests.rotation_plus_call r.entry) }
 {
+    let tolerance = r.tolerance();
     match r.call {
-        40 => Some(outcomes::put(out, manifold_blocks::right_plus::<Element>(r.left, r.right))),
+        40 => Some(outcomes::put(
+            out,
+            manifold_blocks::right_plus::<Element>(r.left, r.right, tolerance),
+        )),
         41 => Some(outcomes::put(
             out,
-            manifold_blocks::right_plus_jacobian_self::<Element>(r.left, r.right),
+            manifold_blocks::right_plus_jacobian_self::<Element>(r.left, r.right, tolerance),
         )),
         42 => Some(outcomes::put(
             out,
-            so3_blocks::right_plus_jacobian_tangent(r.left, r.right),
+            so3_blocks::right_plus_jacobian_tangent(r.left, r.right, tolerance),
         )),
-        43 => Some(outcomes::put(out, manifold_blocks::left_plus::<Element>(r.left, r.right))),
-        44 => Some(outcomes::put(out, so3_blocks::left_plus_jacobian_tangent(r.left, r.right))),
+        43 => Some(outcomes::put(
+            out,
+            manifold_blocks::left_plus::<Element>(r.left, r.right, tolerance),
+        )),
+        44 => Some(outcomes::put(
+            out,
+            so3_blocks::left_plus_jacobian_tangent(r.left, r.right, tolerance),
+        )),
         45 => Some(outcomes::put(
             out,
-            manifold_blocks::left_plus_jacobian_self::<Element>(r.left, r.right),
+            manifold_blocks::left_plus_jacobian_self::<Element>(r.left, r.right, tolerance),
         )),
         _ => None,
     }
@@ -131,16 +158,32 @@ fn rotation_plus_call(r: Request<'_>, out: &mut [u8; 832]) -> Option<usize>
 fn rotation_minus_call(r: Request<'_>, out: &mut [u8; 832]) -> Option<usize>
     ensures { Outcomes.Answered result out.old out.new (Requests.rotation_minus_call r.entry) }
 {
+    let tolerance = r.tolerance();
     match r.call {
         46 => Some(outcomes::put(
             out,
-            manifold_blocks::right_minus::<Element>(r.left, r.right),
+            manifold_blocks::right_minus::<Element>(r.left, r.right, tolerance),
         )),
-        47 => Some(outcomes::put(out, so3_blocks::right_minus_jacobian_self(r.left, r.right))),
-        48 => Some(outcomes::put(out, so3_blocks::right_minus_jacobian_other(r.left, r.right))),
-        49 => Some(outcomes::put(out, manifold_blocks::left_minus::<Element>(r.left, r.right))),
-        50 => Some(outcomes::put(out, so3_blocks::left_minus_jacobian_self(r.left, r.right))),
-        51 => Some(outcomes::put(out, so3_blocks::left_minus_jacobian_other(r.left, r.right))),
+        47 => Some(outcomes::put(
+            out,
+            so3_blocks::right_minus_jacobian_self(r.left, r.right, tolerance),
+        )),
+        48 => Some(outcomes::put(
+            out,
+            so3_blocks::right_minus_jacobian_other(r.left, r.right, tolerance),
+        )),
+        49 => Some(outcomes::put(
+            out,
+            manifold_blocks::left_minus::<Element>(r.left, r.right, tolerance),
+        )),
+        50 => Some(outcomes::put(
+            out,
+            so3_blocks::left_minus_jacobian_self(r.left, r.right, tolerance),
+        )),
+        51 => Some(outcomes::put(
+            out,
+            so3_blocks::left_minus_jacobian_other(r.left, r.right, tolerance),
+        )),
         _ => None,
     }
 }
@@ -150,25 +193,44 @@ fn rotation_minus_call(r: Request<'_>, out: &mut [u8; 832]) -> Option<usize>
 fn rotation_between_call(r: Request<'_>, out: &mut [u8; 832]) -> Option<usize>
     ensures { Outcomes.Answered result out.old out.new (Requests.rotation_between_call r.entry) }
 {
+    let tolerance = r.tolerance();
     match r.call {
-        52 => Some(outcomes::put(out, manifold_blocks::between::<Element>(r.left, r.right))),
+        52 => Some(outcomes::put(
+            out,
+            manifold_blocks::between::<Element>(r.left, r.right, tolerance),
+        )),
         53 => Some(outcomes::put(
             out,
-            manifold_blocks::between_jacobian_self::<Element>(r.left, r.right),
+            manifold_blocks::between_jacobian_self::<Element>(r.left, r.right, tolerance),
         )),
         54 => Some(outcomes::put(
             out,
-            manifold_blocks::between_jacobian_other::<Element>(r.left, r.right),
+            manifold_blocks::between_jacobian_other::<Element>(r.left, r.right, tolerance),
         )),
-        55 => Some(outcomes::put(out, manifold_blocks::plus::<Element>(r.left, r.right))),
+        55 => Some(outcomes::put(
+            out,
+            manifold_blocks::plus::<Element>(r.left, r.right, tolerance),
+        )),
         56 => Some(outcomes::put(
             out,
-            manifold_blocks::plus_jacobian_self::<Element>(r.left, r.right),
+            manifold_blocks::plus_jacobian_self::<Element>(r.left, r.right, tolerance),
         )),
-        57 => Some(outcomes::put(out, so3_blocks::plus_jacobian_tangent(r.left, r.right))),
-        58 => Some(outcomes::put(out, manifold_blocks::minus::<Element>(r.left, r.right))),
-        59 => Some(outcomes::put(out, so3_blocks::minus_jacobian_self(r.left, r.right))),
-        60 => Some(outcomes::put(out, so3_blocks::minus_jacobian_other(r.left, r.right))),
+        57 => Some(outcomes::put(
+            out,
+            so3_blocks::plus_jacobian_tangent(r.left, r.right, tolerance),
+        )),
+        58 => Some(outcomes::put(
+            out,
+            manifold_blocks::minus::<Element>(r.left, r.right, tolerance),
+        )),
+        59 => Some(outcomes::put(
+            out,
+            so3_blocks::minus_jacobian_self(r.left, r.right, tolerance),
+        )),
+        60 => Some(outcomes::put(
+            out,
+            so3_blocks::minus_jacobian_other(r.left, r.right, tolerance),
+        )),
         _ => None,
     }
 }
@@ -182,9 +244,10 @@ fn quaternion_call(r: Request<'_>, out: &mut [u8; 832]) -> Option<usize>
     if q.len() != 4 {
         return None;
     }
+    let tolerance = r.tolerance();
     Some(outcomes::put(
         out,
-        so3_blocks::try_from_quaternion_wxyz(q[0], q[1], q[2], q[3]),
+        so3_blocks::try_from_quaternion_wxyz(q[0], q[1], q[2], q[3], tolerance),
     ))
 }
 

@@ -12,23 +12,23 @@ use Rattle.sgal3.specs.Matrices as Matrices
 use Rattle.sgal3.specs.Group.{group}
 
 -- ---- the parts of an element
-unfoldable pub translation : List Float → Result Vec3 Refusal
-translation block = and_then (Generic.element group block) (λ a. answered vector_values a.translation)
+unfoldable pub translation : List Float → Float → Result Vec3 Refusal
+translation block tolerance = and_then (Generic.element group block tolerance) (λ a. answered vector_values a.translation)
 
-unfoldable pub velocity : List Float → Result Vec3 Refusal
-velocity block = and_then (Generic.element group block) (λ a. answered vector_values a.velocity)
+unfoldable pub velocity : List Float → Float → Result Vec3 Refusal
+velocity block tolerance = and_then (Generic.element group block tolerance) (λ a. answered vector_values a.velocity)
 
-unfoldable pub time : List Float → Result Float Refusal
-time block = and_then (Generic.element group block) (λ a. Ok a.time)
+unfoldable pub time : List Float → Float → Result Float Refusal
+time block tolerance = and_then (Generic.element group block tolerance) (λ a. Ok a.time)
 
 -- as a rotation whose params it is
-unfoldable pub rotation_quaternion : List Float → Result Rotation Refusal
-rotation_quaternion block = and_then (Generic.element group block) (λ a. answered So3.values (So3.new (Elements.rotation_quaternion a)))
+unfoldable pub rotation_quaternion : List Float → Float → Result Rotation Refusal
+rotation_quaternion block tolerance = and_then (Generic.element group block tolerance) (λ a. answered So3.values (So3.new (Elements.rotation_quaternion a)))
 
 -- the eleven values, as given
-unfoldable pub coeffs : List Float → Result (List Float) Refusal
-coeffs block = and_then (Generic.element group block) (λ a. Ok (Elements.coeffs a))
+unfoldable pub coeffs : List Float → Float → Result (List Float) Refusal
+coeffs block tolerance = and_then (Generic.element group block tolerance) (λ a. Ok (Elements.coeffs a))
 
 -- ---- the 5 by 5 matrix, by row
-unfoldable pub matrix : List Float → Result (List Float) Refusal
-matrix block = and_then (Generic.element group block) (λ a. answered (λ m. m) (Matrices.matrix a))
+unfoldable pub matrix : List Float → Float → Result (List Float) Refusal
+matrix block tolerance = and_then (Generic.element group block tolerance) (λ a. answered (λ m. m) (Matrices.matrix a))

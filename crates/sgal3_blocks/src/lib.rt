@@ -12,47 +12,47 @@ use sgal3::Element;
 
 // Translation and velocity are alike but for the field that each names; with the field as a parameter the contract would be the caller's to state.
 #[tactic(auto, unfolding(crate::specs::Calls::translation))]
-pub fn translation(block: &[f64]) -> Result<Vec3, Refusal>
-    ensures { result ≡ Calls.translation block.now }
+pub fn translation(block: &[f64], tolerance: f64) -> Result<Vec3, Refusal>
+    ensures { result ≡ Calls.translation block.now tolerance }
 {
-    manifold::answered(Element::try_from_param_slice(block)?.translation)
+    manifold::answered(Element::try_from_param_slice(block, tolerance)?.translation)
 }
 
 #[tactic(auto, unfolding(crate::specs::Calls::velocity))]
-pub fn velocity(block: &[f64]) -> Result<Vec3, Refusal>
-    ensures { result ≡ Calls.velocity block.now }
+pub fn velocity(block: &[f64], tolerance: f64) -> Result<Vec3, Refusal>
+    ensures { result ≡ Calls.velocity block.now tolerance }
 {
-    manifold::answered(Element::try_from_param_slice(block)?.velocity)
+    manifold::answered(Element::try_from_param_slice(block, tolerance)?.velocity)
 }
 
 #[tactic(auto, unfolding(crate::specs::Calls::time))]
-pub fn time(block: &[f64]) -> Result<f64, Refusal>
-    ensures { result ≡ Calls.time block.now }
+pub fn time(block: &[f64], tolerance: f64) -> Result<f64, Refusal>
+    ensures { result ≡ Calls.time block.now tolerance }
 {
-    Ok(Element::try_from_param_slice(block)?.time)
+    Ok(Element::try_from_param_slice(block, tolerance)?.time)
 }
 
 // As a rotation whose params it is.
 #[tactic(auto, unfolding(crate::specs::Calls::rotation_quaternion))]
-pub fn rotation_quaternion(block: &[f64]) -> Result<so3::Element, Refusal>
-    ensures { result ≡ Calls.rotation_quaternion block.now }
+pub fn rotation_quaternion(block: &[f64], tolerance: f64) -> Result<so3::Element, Refusal>
+    ensures { result ≡ Calls.rotation_quaternion block.now tolerance }
 {
-    let a = Element::try_from_param_slice(block)?;
+    let a = Element::try_from_param_slice(block, tolerance)?;
     manifold::answered(so3::Element::new(a.rotation_quaternion()))
 }
 
 // The eleven values, as given.
 #[tactic(auto, unfolding(crate::specs::Calls::coeffs))]
-pub fn coeffs(block: &[f64]) -> Result<[f64; 11], Refusal>
-    ensures { result ≡ Calls.coeffs block.now }
+pub fn coeffs(block: &[f64], tolerance: f64) -> Result<[f64; 11], Refusal>
+    ensures { result ≡ Calls.coeffs block.now tolerance }
 {
-    Ok(Element::try_from_param_slice(block)?.coeffs())
+    Ok(Element::try_from_param_slice(block, tolerance)?.coeffs())
 }
 
 // Five rows of five, by row.
 #[tactic(auto, unfolding(crate::specs::Calls::matrix))]
-pub fn matrix(block: &[f64]) -> Result<[f64; 25], Refusal>
-    ensures { result ≡ Calls.matrix block.now }
+pub fn matrix(block: &[f64], tolerance: f64) -> Result<[f64; 25], Refusal>
+    ensures { result ≡ Calls.matrix block.now tolerance }
 {
-    manifold::answered(Element::try_from_param_slice(block)?.matrix())
+    manifold::answered(Element::try_from_param_slice(block, tolerance)?.matrix())
 }

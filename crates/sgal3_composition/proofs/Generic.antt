@@ -8,28 +8,28 @@ use Rattle.manifold_blocks.specs.Calls as Generic
 use Rattle.sgal3.specs.Elements as Elements
 use Rattle.sgal3.specs.Group.{group}
 use Rattle.sgal3_composition.specs.Calls.{Answer, check_element, element_answer, compose_answers, inverse_answer, compose, inverse}
-use Rattle.checks.specs.Checks.{tolerance, check_length, check_param_block}
+use Rattle.checks.specs.Checks.{check_length, check_param_block}
 use Rattle.checks.proofs.Passed.{passed_length}
 use Rattle.std.specs.Prelude.{Ok, Err, ⊤}
 use Rattle.checks.specs.declared.Refusal.{Refusal}
 use borrow.Author.Tests.{eq-eqb}
 use lib.ListN.{length}
 
-pub checked : (s : List Float) → try_from_param_slice group s ≡ check_element s tolerance
+pub checked : (s : List Float) (t : Float) → try_from_param_slice group s t ≡ check_element s t
 unfolding try_from_param_slice validate_params check_element
-checked s = refl
+checked s t = refl
 
 pub answers : (left right : Answer) → Generic.compose_answers group Elements.coeffs left right ≡ compose_answers left right
 unfolding Generic.compose_answers compose_answers element_answer answered
 answers left right = refl
 
-pub composed : (left right : List Float) → Generic.compose group Elements.coeffs left right ≡ compose left right
+pub composed : (left right : List Float) (t : Float) → Generic.compose group Elements.coeffs left right t ≡ compose left right t
 unfolding Generic.compose Generic.compose_answers compose compose_answers element_answer answered try_from_param_slice validate_params check_element
-composed left right = refl
+composed left right t = refl
 
-pub inverted : (block : List Float) → Generic.inverse group Elements.coeffs block ≡ inverse block
+pub inverted : (block : List Float) (t : Float) → Generic.inverse group Elements.coeffs block t ≡ inverse block t
 unfolding Generic.inverse Generic.inverse_answer inverse inverse_answer element_answer answered try_from_param_slice validate_params check_element
-inverted block = refl
+inverted block t = refl
 
 -- a block that passed has the length that the element needs
 pub taken : (s : List Float) (t : Float) (x : ⊤) → check_param_block s 11 3 t ≡ Ok x → from_param_slice group s ≡ check_element s t

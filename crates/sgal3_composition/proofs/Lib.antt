@@ -1,4 +1,5 @@
 pub mod Blocks
 pub mod Answers
 pub mod Order
+pub mod NotUnit
 pub mod Generic

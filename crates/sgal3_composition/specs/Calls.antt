@@ -2,7 +2,7 @@
 use Rattle.std.specs.Prelude.{ℕ, zero, suc, ◌/◌, cond, List, T, length, get_or, take, drop, Result, Ok, Err, Float}
 use Rattle.std.specs.Float.{nan, binary64}
 use Rattle.std.specs.Float.Ieee.{fits}
-use Rattle.checks.specs.Checks.{and_then, both, tolerance, all_finite, check_chain_length, check_param_block}
+use Rattle.checks.specs.Checks.{and_then, both, all_finite, check_tolerance, check_chain_length, check_param_block}
 use Rattle.checks.specs.declared.Refusal.{Refusal}
 use Rattle.checks.specs.declared.Refusal.TheVariants.{Overflow}
 use Rattle.sgal3.specs.Elements as Elements
@@ -30,20 +30,24 @@ compose_answers left right = and_then (both left right) (λ p. element_answer (E
 unfoldable pub inverse_answer : Answer → Answer
 inverse_answer block = and_then block (λ a. element_answer (Elements.inverse a))
 
-unfoldable pub compose : List Float → List Float → Answer
-compose left right = compose_answers (check_element left tolerance) (check_element right tolerance)
+unfoldable pub compose : List Float → List Float → Float → Answer
+compose left right tolerance = compose_answers (check_element left tolerance) (check_element right tolerance)
 
-unfoldable pub inverse : List Float → Answer
-inverse block = inverse_answer (check_element block tolerance)
+unfoldable pub inverse : List Float → Float → Answer
+inverse block tolerance = inverse_answer (check_element block tolerance)
 
 -- n blocks from the front of s, composed from left to right with what is held
-unfoldable pub chain_from : Answer → ℕ → List Float → Answer
-chain_from held zero s = held
-chain_from held (suc n) s = chain_from (compose_answers held (check_element (take 11 s) tolerance)) n (drop 11 s)
+unfoldable pub chain_from : Float → Answer → ℕ → List Float → Answer
+chain_from tolerance held zero s = held
+chain_from tolerance held (suc n) s = chain_from tolerance (compose_answers held (check_element (take 11 s) tolerance)) n (drop 11 s)
 
-unfoldable pub chain_blocks : ℕ → List Float → Answer
-chain_blocks n s = chain_from (Ok Elements.identity) n s
+-- a chain starts with the identity; a tolerance that is not permitted is refused even if there is no block
+unfoldable pub starts : Float → Answer
+starts tolerance = and_then (check_tolerance tolerance) (λ _. Ok Elements.identity)
+
+unfoldable pub chain_blocks : Float → ℕ → List Float → Answer
+chain_blocks tolerance n s = chain_from tolerance (starts tolerance) n s
 
 -- at most 4,096 blocks
-unfoldable pub chain : List Float → Answer
-chain s = and_then (check_chain_length (length s) 11 45056) (λ _. chain_blocks (length s / 11) s)
+unfoldable pub chain : List Float → Float → Answer
+chain s tolerance = and_then (check_chain_length (length s) 11 45056) (λ _. chain_blocks tolerance (length s / 11) s)

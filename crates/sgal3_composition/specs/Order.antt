@@ -1,17 +1,15 @@
 -- The paper's order of refusals, literally: each number is tried over all blocks from left to right before the next; only blocks that all pass are composed.
 -- Definitions only.
 use Rattle.std.specs.Prelude.{ℕ, zero, suc, List, [], ◌∷◌, take, drop, Ok, Err, Float}
-use Rattle.checks.specs.Refusals.{by_number}
-use Rattle.checks.specs.Checks.{tolerance}
+use Rattle.checks.specs.Refusals.{tried, in_turn}
 use Rattle.checks.specs.declared.Refusal.{Refusal}
 use Rattle.sgal3.specs.Elements as Elements
 use Rattle.sgal3_composition.specs.Calls.{Answer, check_element, element_answer}
-use Rattle.sgal3.specs.declared.Element.{Element}
 
 -- the answers of n blocks from the front of s, from left to right
-unfoldable pub checks : ℕ → List Float → List Answer
-checks zero s = []
-checks (suc n) s = check_element (take 11 s) tolerance ∷ checks n (drop 11 s)
+unfoldable pub checks : Float → ℕ → List Float → List Answer
+checks tolerance zero s = []
+checks tolerance (suc n) s = check_element (take 11 s) tolerance ∷ checks tolerance n (drop 11 s)
 
 unfoldable pub refusals : List Answer → List Refusal
 refusals [] = []
@@ -28,10 +26,11 @@ unfoldable pub compose_all : List Answer → Answer → Answer
 compose_all [] held = held
 compose_all (o ∷ os) held = compose_all os (step held o)
 
--- the numbers 1 to 5, one after the other, or else the composition
+-- the numbers of `tried`, one after the other, or else the composition
 unfoldable pub unless_refused : List Refusal → Answer → Answer
 unless_refused [] answer = answer
-unless_refused (r ∷ rs) answer = Err (by_number 5 1 (r ∷ rs) r)
+unless_refused (r ∷ rs) answer = Err (in_turn tried (r ∷ rs) r)
 
-unfoldable pub in_order : Element → List Answer → Answer
-in_order a os = unless_refused (refusals os) (compose_all os (Ok a))
+-- `first` is what stands before the blocks: the identity, or the refusal of the tolerance
+unfoldable pub in_order : Answer → List Answer → Answer
+in_order first os = unless_refused (refusals (first ∷ os)) (compose_all os first)

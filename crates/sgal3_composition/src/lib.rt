@@ -9,21 +9,21 @@ use manifold::LieGroup;
 use sgal3::Element;
 
 #[tactic(auto, using(crate::proofs::Generic::composed))]
-pub fn compose(left: &[f64], right: &[f64]) -> Result<Element, Refusal>
-    ensures value { result ≡ Calls.compose left.now right.now }
+pub fn compose(left: &[f64], right: &[f64], tolerance: f64) -> Result<Element, Refusal>
+    ensures value { result ≡ Calls.compose left.now right.now tolerance }
     ensures binary64 { Calls.Binary64 right.now }
 {
-    manifold_blocks::compose(left, right)
+    manifold_blocks::compose(left, right, tolerance)
 }
 
 #[tactic(auto, using(crate::proofs::Generic::inverted))]
-pub fn inverse(block: &[f64]) -> Result<Element, Refusal>
-    ensures { result ≡ Calls.inverse block.now }
+pub fn inverse(block: &[f64], tolerance: f64) -> Result<Element, Refusal>
+    ensures { result ≡ Calls.inverse block.now tolerance }
 {
-    manifold_blocks::inverse(block)
+    manifold_blocks::inverse(block, tolerance)
 }
 
-// The element of a block, or why it is refused; at any tolerance.
+// The element of a block, or why it is refused.
 #[tactic(auto, using(crate::proofs::Generic::taken, crate::proofs::Generic::refused))]
 pub fn check_element(block: &[f64], tolerance: f64) -> Result<Element, Refusal>
     ensures { result ≡ Calls.check_element block.now tolerance }
@@ -32,24 +32,33 @@ pub fn check_element(block: &[f64], tolerance: f64) -> Result<Element, Refusal>
     Element::from_param_slice(block)
 }
 
-// The blocks of s, composed one after the other from the identity. One pass: a block's refusal comes before an overflow
-// by its number, wherever it stands.
-fn chain_blocks(s: &[f64]) -> Result<Element, Refusal>
-    ensures { result ≡ Calls.chain_blocks (length s.now / 11) s.now }
+// What stands before the first block. A tolerance that is not permitted is refused even if there is no block.
+#[tactic(auto, unfolding(crate::specs::Calls::starts))]
+fn starts(tolerance: f64) -> Result<Element, Refusal>
+    ensures { result ≡ Calls.starts tolerance }
 {
-    let mut held = Ok(Element::identity());
+    checks::check_tolerance(tolerance)?;
+    Ok(Element::identity())
+}
+
+// The blocks of s, composed one after the other from the identity. One pass: a block's refusal comes before an overflow, wherever
+// it stands.
+fn chain_blocks(s: &[f64], tolerance: f64) -> Result<Element, Refusal>
+    ensures { result ≡ Calls.chain_blocks tolerance (length s.now / 11) s.now }
+{
+    let mut held = starts(tolerance);
     for block in s.chunks_exact(11) {
-        held = manifold_blocks::compose_answers(held, check_element(block, checks::tolerance()));
+        held = manifold_blocks::compose_answers(held, check_element(block, tolerance));
     }
     held
 }
 
 // Up to 4,096 blocks, laid end to end.
 #[tactic(auto, unfolding(crate::specs::Calls::chain))]
-pub fn chain(blocks: &[f64]) -> Result<Element, Refusal>
-    ensures value { result ≡ Calls.chain blocks.now }
+pub fn chain(blocks: &[f64], tolerance: f64) -> Result<Element, Refusal>
+    ensures value { result ≡ Calls.chain blocks.now tolerance }
     ensures binary64 { Calls.Binary64 blocks.now }
 {
     checks::check_chain_length(blocks.len(), 11, 45056)?;
-    chain_blocks(blocks)
+    chain_blocks(blocks, tolerance)
 }

@@ -1,6 +1,7 @@
-// exp, log and adjoint for C and Rust, to be timed there: a call on a block of values, and its outcome as bytes.
+// exp, and log and adjoint at 1e-6, for C and Rust, to be timed there: a call on a block of values, and its outcome as bytes.
 #![tactic(auto)]
 
+ghost use Rattle.checks.specs.Checks as Checks;
 ghost use Rattle.manifold_blocks.specs.Calls as Calls;
 ghost use Rattle.outcomes.specs.Outcomes as Outcomes;
 ghost use Rattle.sgal3.specs.Elements as Elements;
@@ -21,14 +22,20 @@ pub extern "C" fn sgal3_exp(tangent: &[f64], out: &mut [u8; 832]) -> usize
 
 #[unsafe(no_mangle)]
 pub extern "C" fn sgal3_log(block: &[f64], out: &mut [u8; 832]) -> usize
-    ensures { Outcomes.Put result out.old out.new (Outcomes.of Tangents.coeffs 0 (Calls.log group Tangents.coeffs block.now)) }
+    ensures { Outcomes.Put result out.old out.new (Outcomes.of Tangents.coeffs 0 (Calls.log group Tangents.coeffs block.now Checks.tolerance)) }
 {
-    outcomes::put(out, manifold_blocks::log::<Element>(block))
+    outcomes::put(
+        out,
+        manifold_blocks::log::<Element>(block, checks::tolerance()),
+    )
 }
 
 #[unsafe(no_mangle)]
 pub extern "C" fn sgal3_adjoint(block: &[f64], out: &mut [u8; 832]) -> usize
-    ensures { Outcomes.Put result out.old out.new (Outcomes.of TenRows.values 100 (Calls.adjoint group TenRows.values block.now)) }
+    ensures { Outcomes.Put result out.old out.new (Outcomes.of TenRows.values 100 (Calls.adjoint group TenRows.values block.now Checks.tolerance)) }
 {
-    outcomes::put(out, manifold_blocks::adjoint::<Element>(block))
+    outcomes::put(
+        out,
+        manifold_blocks::adjoint::<Element>(block, checks::tolerance()),
+    )
 }

@@ -1,6 +1,6 @@
 -- The calls on blocks that SO(3) alone has, each with every refusal. Definitions only.
 use Rattle.std.specs.Prelude.{[], ◌∷◌, List, Result, Ok, Float}
-use Rattle.checks.specs.Checks.{and_then, tolerance, check_unit_quaternion}
+use Rattle.checks.specs.Checks.{and_then, check_unit_quaternion}
 use Rattle.checks.specs.declared.Refusal.{Refusal}
 use Rattle.linear.specs.declared.Mat3.{Mat3}
 use Rattle.manifold.specs.Answers.{answered, within, matrix_values}
@@ -13,16 +13,16 @@ use Rattle.so3.specs.Group.{group, tangents, log_jacobian_leaves_series}
 use Rattle.so3.specs.declared.Element.{Element}
 
 -- the one call of four values instead of a block: normalised once
-unfoldable pub try_from_quaternion_wxyz : Float → Float → Float → Float → Result Element Refusal
-try_from_quaternion_wxyz w x y z =
+unfoldable pub try_from_quaternion_wxyz : Float → Float → Float → Float → Float → Result Element Refusal
+try_from_quaternion_wxyz w x y z tolerance =
     and_then (check_unit_quaternion (w ∷ x ∷ y ∷ z ∷ []) tolerance) (λ _. answered Elements.values (Elements.from_quaternion_wxyz w x y z))
 
 -- ---- Jacobians of log and exp: refused where a series is left
-unfoldable pub within_log_jacobian : List Float → Result Element Refusal
-within_log_jacobian block = and_then (Generic.element group block) (λ a. and_then (within (log_jacobian_leaves_series a)) (λ _. Ok a))
+unfoldable pub within_log_jacobian : List Float → Float → Result Element Refusal
+within_log_jacobian block tolerance = and_then (Generic.element group block tolerance) (λ a. and_then (within (log_jacobian_leaves_series a)) (λ _. Ok a))
 
-unfoldable pub log_jacobian : List Float → Result Mat3 Refusal
-log_jacobian block = and_then (within_log_jacobian block) (λ a. answered matrix_values (Elements.log_jacobian a))
+unfoldable pub log_jacobian : List Float → Float → Result Mat3 Refusal
+log_jacobian block tolerance = and_then (within_log_jacobian block tolerance) (λ a. answered matrix_values (Elements.log_jacobian a))
 
 unfoldable pub left_jacobian : List Float → Result Mat3 Refusal
 left_jacobian tangent = and_then (Generic.within_exp tangents tangent) (λ t. answered matrix_values (Tangents.left_jacobian t))
@@ -37,32 +37,32 @@ unfoldable pub right_jacobian_inv : List Float → Result Mat3 Refusal
 right_jacobian_inv tangent = and_then (Generic.within_exp tangents tangent) (λ t. answered matrix_values (Tangents.right_jacobian_inv t))
 
 -- ---- of plus with respect to its tangent
-unfoldable pub right_plus_jacobian_tangent : List Float → List Float → Result Mat3 Refusal
-right_plus_jacobian_tangent block tangent = and_then (Generic.within_plus group tangents block tangent) (λ p. answered matrix_values (Tangents.right_jacobian p.1))
+unfoldable pub right_plus_jacobian_tangent : List Float → List Float → Float → Result Mat3 Refusal
+right_plus_jacobian_tangent block tangent tolerance = and_then (Generic.within_plus group tangents block tangent tolerance) (λ p. answered matrix_values (Tangents.right_jacobian p.1))
 
-unfoldable pub left_plus_jacobian_tangent : List Float → List Float → Result Mat3 Refusal
-left_plus_jacobian_tangent block tangent =
-    and_then (Generic.within_plus group tangents block tangent) (λ p. answered matrix_values (Jacobians.left_plus_jacobian_tangent p.0 p.1))
+unfoldable pub left_plus_jacobian_tangent : List Float → List Float → Float → Result Mat3 Refusal
+left_plus_jacobian_tangent block tangent tolerance =
+    and_then (Generic.within_plus group tangents block tangent tolerance) (λ p. answered matrix_values (Jacobians.left_plus_jacobian_tangent p.0 p.1))
 
 -- ---- of minus: refused where the Jacobian of the difference's log leaves a series
 -- the two elements, where the difference d stays within
 abbrev within_jacobian : Element → Element × Element → Result (Element × Element) Refusal
 within_jacobian d p = and_then (within (log_jacobian_leaves_series d)) (λ _. Ok p)
 
-unfoldable pub within_right_minus_jacobian : List Float → List Float → Result (Element × Element) Refusal
-within_right_minus_jacobian left right = and_then (Generic.elements group left right) (λ p. within_jacobian (between group p.1 p.0) p)
+unfoldable pub within_right_minus_jacobian : List Float → List Float → Float → Result (Element × Element) Refusal
+within_right_minus_jacobian left right tolerance = and_then (Generic.elements group left right tolerance) (λ p. within_jacobian (between group p.1 p.0) p)
 
-unfoldable pub within_left_minus_jacobian : List Float → List Float → Result (Element × Element) Refusal
-within_left_minus_jacobian left right = and_then (Generic.elements group left right) (λ p. within_jacobian (left_between group p.0 p.1) p)
+unfoldable pub within_left_minus_jacobian : List Float → List Float → Float → Result (Element × Element) Refusal
+within_left_minus_jacobian left right tolerance = and_then (Generic.elements group left right tolerance) (λ p. within_jacobian (left_between group p.0 p.1) p)
 
-unfoldable pub right_minus_jacobian_self : List Float → List Float → Result Mat3 Refusal
-right_minus_jacobian_self left right = and_then (within_right_minus_jacobian left right) (λ p. answered matrix_values (Jacobians.right_minus_jacobian_self p.0 p.1))
+unfoldable pub right_minus_jacobian_self : List Float → List Float → Float → Result Mat3 Refusal
+right_minus_jacobian_self left right tolerance = and_then (within_right_minus_jacobian left right tolerance) (λ p. answered matrix_values (Jacobians.right_minus_jacobian_self p.0 p.1))
 
-unfoldable pub right_minus_jacobian_other : List Float → List Float → Result Mat3 Refusal
-right_minus_jacobian_other left right = and_then (within_right_minus_jacobian left right) (λ p. answered matrix_values (Jacobians.right_minus_jacobian_other p.0 p.1))
+unfoldable pub right_minus_jacobian_other : List Float → List Float → Float → Result Mat3 Refusal
+right_minus_jacobian_other left right tolerance = and_then (within_right_minus_jacobian left right tolerance) (λ p. answered matrix_values (Jacobians.right_minus_jacobian_other p.0 p.1))
 
-unfoldable pub left_minus_jacobian_self : List Float → List Float → Result Mat3 Refusal
-left_minus_jacobian_self left right = and_then (within_left_minus_jacobian left right) (λ p. answered matrix_values (Jacobians.left_minus_jacobian_self p.0 p.1))
+unfoldable pub left_minus_jacobian_self : List Float → List Float → Float → Result Mat3 Refusal
+left_minus_jacobian_self left right tolerance = and_then (within_left_minus_jacobian left right tolerance) (λ p. answered matrix_values (Jacobians.left_minus_jacobian_self p.0 p.1))
 
-unfoldable pub left_minus_jacobian_other : List Float → List Float → Result Mat3 Refusal
-left_minus_jacobian_other left right = and_then (within_left_minus_jacobian left right) (λ p. answered matrix_values (Jacobians.left_minus_jacobian_other p.0 p.1))
+unfoldable pub left_minus_jacobian_other : List Float → List Float → Float → Result Mat3 Refusal
+left_minus_jacobian_other left right tolerance = and_then (within_left_minus_jacobian left right tolerance) (λ p. answered matrix_values (Jacobians.left_minus_jacobian_other p.0 p.1))

@@ -12,10 +12,16 @@ use so3::{Element, Tangent};
 
 // The one call of four values instead of a block: normalised once.
 #[tactic(auto, unfolding(crate::specs::Calls::try_from_quaternion_wxyz))]
-pub fn try_from_quaternion_wxyz(w: f64, x: f64, y: f64, z: f64) -> Result<Element, Refusal>
-    ensures { result ≡ Calls.try_from_quaternion_wxyz w x y z }
+pub fn try_from_quaternion_wxyz(
+    w: f64,
+    x: f64,
+    y: f64,
+    z: f64,
+    tolerance: f64,
+) -> Result<Element, Refusal>
+    ensures { result ≡ Calls.try_from_quaternion_wxyz w x y z tolerance }
 {
-    checks::check_unit_quaternion(&[w, x, y, z], checks::tolerance())?;
+    checks::check_unit_quaternion(&[w, x, y, z], tolerance)?;
     manifold::answered(Element::from_quaternion_wxyz(w, x, y, z))
 }
 
@@ -24,19 +30,19 @@ pub fn try_from_quaternion_wxyz(w: f64, x: f64, y: f64, z: f64) -> Result<Elemen
 
 // The rotation, if log's Jacobian stays in its series there.
 #[tactic(auto, unfolding(crate::specs::Calls::within_log_jacobian))]
-pub fn within_log_jacobian(block: &[f64]) -> Result<Element, Refusal>
-    ensures { result ≡ Calls.within_log_jacobian block.now }
+pub fn within_log_jacobian(block: &[f64], tolerance: f64) -> Result<Element, Refusal>
+    ensures { result ≡ Calls.within_log_jacobian block.now tolerance }
 {
-    let a = Element::try_from_param_slice(block)?;
+    let a = Element::try_from_param_slice(block, tolerance)?;
     manifold::within(a.log_jacobian_leaves_series())?;
     Ok(a)
 }
 
 #[tactic(auto, unfolding(crate::specs::Calls::log_jacobian))]
-pub fn log_jacobian(block: &[f64]) -> Result<Mat3, Refusal>
-    ensures { result ≡ Calls.log_jacobian block.now }
+pub fn log_jacobian(block: &[f64], tolerance: f64) -> Result<Mat3, Refusal>
+    ensures { result ≡ Calls.log_jacobian block.now tolerance }
 {
-    manifold::answered(within_log_jacobian(block)?.log_jacobian())
+    manifold::answered(within_log_jacobian(block, tolerance)?.log_jacobian())
 }
 
 #[tactic(auto, unfolding(crate::specs::Calls::left_jacobian))]
@@ -77,25 +83,37 @@ pub fn right_jacobian_inv(tangent: &[f64]) -> Result<Mat3, Refusal>
 // ---- Of plus with respect to its tangent
 
 #[tactic(auto, unfolding(crate::specs::Calls::right_plus_jacobian_tangent))]
-pub fn right_plus_jacobian_tangent(block: &[f64], tangent: &[f64]) -> Result<Mat3, Refusal>
-    ensures { result ≡ Calls.right_plus_jacobian_tangent block.now tangent.now }
+pub fn right_plus_jacobian_tangent(
+    block: &[f64],
+    tangent: &[f64],
+    tolerance: f64,
+) -> Result<Mat3, Refusal>
+    ensures { result ≡ Calls.right_plus_jacobian_tangent block.now tangent.now tolerance }
 {
-    let (_, t) = manifold_blocks::within_plus::<Element>(block, tangent)?;
+    let (_, t) = manifold_blocks::within_plus::<Element>(block, tangent, tolerance)?;
     manifold::answered(t.right_jacobian())
 }
 
 // Plus is the one on the right.
-pub fn plus_jacobian_tangent(block: &[f64], tangent: &[f64]) -> Result<Mat3, Refusal>
-    ensures { result ≡ Calls.right_plus_jacobian_tangent block.now tangent.now }
+pub fn plus_jacobian_tangent(
+    block: &[f64],
+    tangent: &[f64],
+    tolerance: f64,
+) -> Result<Mat3, Refusal>
+    ensures { result ≡ Calls.right_plus_jacobian_tangent block.now tangent.now tolerance }
 {
-    right_plus_jacobian_tangent(block, tangent)
+    right_plus_jacobian_tangent(block, tangent, tolerance)
 }
 
 #[tactic(auto, unfolding(crate::specs::Calls::left_plus_jacobian_tangent))]
-pub fn left_plus_jacobian_tangent(block: &[f64], tangent: &[f64]) -> Result<Mat3, Refusal>
-    ensures { result ≡ Calls.left_plus_jacobian_tangent block.now tangent.now }
+pub fn left_plus_jacobian_tangent(
+    block: &[f64],
+    tangent: &[f64],
+    tolerance: f64,
+) -> Result<Mat3, Refusal>
+    ensures { result ≡ Calls.left_plus_jacobian_tangent block.now tangent.now tolerance }
 {
-    let (a, t) = manifold_blocks::within_plus::<Element>(block, tangent)?;
+    let (a, t) = manifold_blocks::within_plus::<Element>(block, tangent, tolerance)?;
     manifold::answered(a.left_plus_jacobian_tangent(t))
 }
 
@@ -106,67 +124,85 @@ pub fn left_plus_jacobian_tangent(block: &[f64], tangent: &[f64]) -> Result<Mat3
 pub fn within_right_minus_jacobian(
     left: &[f64],
     right: &[f64],
+    tolerance: f64,
 ) -> Result<(Element, Element), Refusal>
-    ensures { result ≡ Calls.within_right_minus_jacobian left.now right.now }
+    ensures { result ≡ Calls.within_right_minus_jacobian left.now right.now tolerance }
 {
-    let (a, b) = manifold_blocks::elements::<Element>(left, right)?;
+    let (a, b) = manifold_blocks::elements::<Element>(left, right, tolerance)?;
     manifold::within(b.between(a).log_jacobian_leaves_series())?;
     Ok((a, b))
 }
 
 #[tactic(auto, unfolding(crate::specs::Calls::right_minus_jacobian_self))]
-pub fn right_minus_jacobian_self(left: &[f64], right: &[f64]) -> Result<Mat3, Refusal>
-    ensures { result ≡ Calls.right_minus_jacobian_self left.now right.now }
+pub fn right_minus_jacobian_self(
+    left: &[f64],
+    right: &[f64],
+    tolerance: f64,
+) -> Result<Mat3, Refusal>
+    ensures { result ≡ Calls.right_minus_jacobian_self left.now right.now tolerance }
 {
-    let (a, b) = within_right_minus_jacobian(left, right)?;
+    let (a, b) = within_right_minus_jacobian(left, right, tolerance)?;
     manifold::answered(a.right_minus_jacobian_self(b))
 }
 
 // Minus is the one on the right.
-pub fn minus_jacobian_self(left: &[f64], right: &[f64]) -> Result<Mat3, Refusal>
-    ensures { result ≡ Calls.right_minus_jacobian_self left.now right.now }
+pub fn minus_jacobian_self(left: &[f64], right: &[f64], tolerance: f64) -> Result<Mat3, Refusal>
+    ensures { result ≡ Calls.right_minus_jacobian_self left.now right.now tolerance }
 {
-    right_minus_jacobian_self(left, right)
+    right_minus_jacobian_self(left, right, tolerance)
 }
 
 #[tactic(auto, unfolding(crate::specs::Calls::right_minus_jacobian_other))]
-pub fn right_minus_jacobian_other(left: &[f64], right: &[f64]) -> Result<Mat3, Refusal>
-    ensures { result ≡ Calls.right_minus_jacobian_other left.now right.now }
+pub fn right_minus_jacobian_other(
+    left: &[f64],
+    right: &[f64],
+    tolerance: f64,
+) -> Result<Mat3, Refusal>
+    ensures { result ≡ Calls.right_minus_jacobian_other left.now right.now tolerance }
 {
-    let (a, b) = within_right_minus_jacobian(left, right)?;
+    let (a, b) = within_right_minus_jacobian(left, right, tolerance)?;
     manifold::answered(a.right_minus_jacobian_other(b))
 }
 
-pub fn minus_jacobian_other(left: &[f64], right: &[f64]) -> Result<Mat3, Refusal>
-    ensures { result ≡ Calls.right_minus_jacobian_other left.now right.now }
+pub fn minus_jacobian_other(left: &[f64], right: &[f64], tolerance: f64) -> Result<Mat3, Refusal>
+    ensures { result ≡ Calls.right_minus_jacobian_other left.now right.now tolerance }
 {
-    right_minus_jacobian_other(left, right)
+    right_minus_jacobian_other(left, right, tolerance)
 }
 
 #[tactic(auto, unfolding(crate::specs::Calls::within_left_minus_jacobian))]
 pub fn within_left_minus_jacobian(
     left: &[f64],
     right: &[f64],
+    tolerance: f64,
 ) -> Result<(Element, Element), Refusal>
-    ensures { result ≡ Calls.within_left_minus_jacobian left.now right.now }
+    ensures { result ≡ Calls.within_left_minus_jacobian left.now right.now tolerance }
 {
-    let (a, b) = manifold_blocks::elements::<Element>(left, right)?;
+    let (a, b) = manifold_blocks::elements::<Element>(left, right, tolerance)?;
     manifold::within(a.left_between(b).log_jacobian_leaves_series())?;
     Ok((a, b))
 }
 
 #[tactic(auto, unfolding(crate::specs::Calls::left_minus_jacobian_self))]
-pub fn left_minus_jacobian_self(left: &[f64], right: &[f64]) -> Result<Mat3, Refusal>
-    ensures { result ≡ Calls.left_minus_jacobian_self left.now right.now }
+pub fn left_minus_jacobian_self(
+    left: &[f64],
+    right: &[f64],
+    tolerance: f64,
+) -> Result<Mat3, Refusal>
+    ensures { result ≡ Calls.left_minus_jacobian_self left.now right.now tolerance }
 {
-    let (a, b) = within_left_minus_jacobian(left, right)?;
+    let (a, b) = within_left_minus_jacobian(left, right, tolerance)?;
     manifold::answered(a.left_minus_jacobian_self(b))
 }
 
 #[tactic(auto, unfolding(crate::specs::Calls::left_minus_jacobian_other))]
-pub fn left_minus_jacobian_other(left: &[f64], right: &[f64]) -> Result<Mat3, Refusal>
-    ensures { result ≡ Calls.left_minus_jacobian_other left.now right.now }
+pub fn left_minus_jacobian_other(
+    left: &[f64],
+    right: &[f64],
+    tolerance: f64,
+) -> Result<Mat3, Refusal>
+    ensures { result ≡ Calls.left_minus_jacobian_other left.now right.now tolerance }
 {
-    let (a, b) = within_left_minus_jacobian(left, right)?;
+    let (a, b) = within_left_minus_jacobian(left, right, tolerance)?;
     manifold::answered(a.left_minus_jacobian_other(b))
 }

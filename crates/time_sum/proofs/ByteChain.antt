@@ -29,21 +29,21 @@ values (suc n) s at = go (values n s (at + 8))
     go f zero = of_bits-fits binary64 (word_at s at)
     go f (suc i) = f i
 
-whole : (most : ℕ) (s : List ℕ) (c : Element) → chain most s ≡ Ok c → chain_blocks (length s / 88) s ≡ Ok c
+whole : (tolerance : Float) (most : ℕ) (s : List ℕ) (c : Element) → chain most s tolerance ≡ Ok c → chain_blocks tolerance (length s / 88) s ≡ Ok c
 unfolding chain
-whole most s c = second-passed _ _
+whole tolerance most s c = second-passed _ _
 
 -- the blocks of a byte chain, as values
 abbrev pub value_blocks : List ℕ → List (List Float)
 value_blocks s = blocks (length s / 88) (values_at (length s / 88 * 11) s 0)
 
-pub byte-chain-time-sum-sharp : (most : ℕ) (s : List ℕ) (c : Element) → chain most s ≡ Ok c
+pub byte-chain-time-sum-sharp : (tolerance : Float) (most : ℕ) (s : List ℕ) (c : Element) → chain most s tolerance ≡ Ok c
     → 2 ^ 53 * nat_abs (exact c.time -ℤ exact_sum (value_blocks s)) ≤ (length s / 88 - 1) * magnitude_sum (value_blocks s)
 unfolding chain_blocks
-byte-chain-time-sum-sharp most s c h =
+byte-chain-time-sum-sharp tolerance most s c h =
     let n = length s / 88 in
-    chained n (values_at (n * 11) s 0) c (whole most s c h) (values-blocks n (values_at (n * 11) s 0) (values (n * 11) s 0))
+    chained tolerance n (values_at (n * 11) s 0) c (whole tolerance most s c h) (values-blocks n (values_at (n * 11) s 0) (values (n * 11) s 0))
 
-pub byte-chain-time-sum : (most : ℕ) (s : List ℕ) (c : Element) → chain most s ≡ Ok c
+pub byte-chain-time-sum : (tolerance : Float) (most : ℕ) (s : List ℕ) (c : Element) → chain most s tolerance ≡ Ok c
     → 2 ^ 53 * nat_abs (exact c.time -ℤ exact_sum (value_blocks s)) ≤ length s / 88 * magnitude_sum (value_blocks s)
-byte-chain-time-sum most s c h = le_trans (byte-chain-time-sum-sharp most s c h) (mul-le-mul_right (magnitude_sum (value_blocks s)) (one_less (length s / 88)))
+byte-chain-time-sum tolerance most s c h = le_trans (byte-chain-time-sum-sharp tolerance most s c h) (mul-le-mul_right (magnitude_sum (value_blocks s)) (one_less (length s / 88)))

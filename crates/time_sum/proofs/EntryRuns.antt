@@ -1,5 +1,5 @@
--- Demand 3 of the C entries: after any run of compose calls on bytes, into an output or in place, refused ones included, the held time is within
--- (n - 1) * M / 2 ^ 53 of the exact sum of the accepted steps' times, with no hypothesis. Assumes nothing.
+-- Demand 3 of the C entries: after any run of compose calls on bytes, into an output or in place, each at any tolerance, refused ones included, the held
+-- time is within (n - 1) * M / 2 ^ 53 of the exact sum of the accepted steps' times, with no hypothesis. Assumes nothing.
 use Prim.Native.Nat.{ℕ, suc, ◌+◌, ◌-◌}
 use mathlib.Core.Path.{◌≡◌, refl, sym, ap, ◌∙◌, subst}
 use mathlib.Core.Bool.{Bool, true, false, cond}
@@ -15,7 +15,7 @@ use Rattle.float.specs.Exact.{exact, count}
 use Rattle.rounding.proofs.Laws.{add-operands}
 use Rattle.law.specs.Galilean as Law
 use Rattle.std.specs.Prelude.{Ok, Err}
-use Rattle.checks.specs.Checks.{Check, and_then, both, tolerance}
+use Rattle.checks.specs.Checks.{Check, and_then, both}
 use Rattle.checks.specs.Refusals as Refusals
 use Rattle.checks.specs.declared.Refusal.{Refusal}
 use Rattle.checks.specs.declared.Refusal.TheVariants.{Length}
@@ -49,15 +49,15 @@ answered out a c = go a (check_output out)
     go (Err q) (Ok passed) h = never h
     go (Err q) (Err r) h = never h
 
-block-time : (s : List ℕ) (e : Element) → check_block s ≡ Ok e → e.time ≡ time_at s
+block-time : (tolerance : Float) (s : List ℕ) (e : Element) → check_block s tolerance ≡ Ok e → e.time ≡ time_at s
 unfolding check_block
-block-time s e = go (eqb (length s) 88)
+block-time tolerance s e = go (eqb (length s) 88)
   where
     last : time_of (values_at 11 s 0) ≡ time_at s
     last = unfold time_of time_at values_at in refl
 
     go : (b : Bool) → cond b (Calls.check_element (values_at 11 s 0) tolerance) (Err (Length 88 (length s))) ≡ Ok e → e.time ≡ time_at s
-    go true h = checked (values_at 11 s 0) e h ∙ last
+    go true h = checked tolerance (values_at 11 s 0) e h ∙ last
     go false h = never h
 
 stored-time : (e : Element) → T (fits binary64 e.time) → time_at (element_bytes e) ≡ e.time
@@ -70,13 +70,13 @@ unfolding time_at value_at
 time-fits s = of_bits-fits binary64 (word_at s 80)
 
 -- ---- one call
-accepts : {n : ℕ} {S : ℤ} {M : ℕ} (held step out : List ℕ) (c : Element) → Entries.compose held step out ≡ Ok c → Summed (time_at held) n S M
+accepts : {n : ℕ} {S : ℤ} {M : ℕ} (tolerance : Float) (held step out : List ℕ) (c : Element) → Entries.compose held step tolerance out ≡ Ok c → Summed (time_at held) n S M
     → Summed (time_at (element_bytes c)) (suc n) (S +ℤ exact (time_at step)) (M + count (time_at step))
 unfolding Entries.compose
-accepts held step out c h i =
-    let k = composed (check_block held) (check_block step) c (answered out _ c h) in
+accepts tolerance held step out c h i =
+    let k = composed (check_block held tolerance) (check_block step tolerance) c (answered out _ c h) in
     let is : c.time ≡ add binary64 (time_at held) (time_at step) =
-    k.time ∙ ap (λ (x : Float). add binary64 x k.b.time) (block-time held k.a k.left_is) ∙ ap (add binary64 (time_at held)) (block-time step k.b k.right_is) in
+    k.time ∙ ap (λ (x : Float). add binary64 x k.b.time) (block-time tolerance held k.a k.left_is) ∙ ap (add binary64 (time_at held)) (block-time tolerance step k.b k.right_is) in
     let stored : time_at (element_bytes c) ≡ c.time = stored-time c (subst (λ (x : Float). T (fits binary64 x)) (sym is) (add-fits binary64 (time_at held) (time_at step))) in
     let finite-sum = rw is at k.finite in
     rw (stored, is) (adds (time_at step) i (record { is_binary64 = time-fits step; is_finite = (add-operands (time_at held) (time_at step) finite-sum).1 }) finite-sum)
@@ -92,20 +92,21 @@ refusal-enters b step taken left r e i = rw (above_zero r) as_before
     as_before : Summed (time_at left) b.n b.S b.M
     as_before = rw e i
 
-one-call : (b : EntryRun) (step out left : List ℕ) (a : Answer) → Entries.compose b.held step out ≡ a → ((r : Refusal) → a ≡ Err r → left ≡ b.held)
+one-call : (b : EntryRun) (tolerance : Float) (step out left : List ℕ) (a : Answer) → Entries.compose b.held step tolerance out ≡ a → ((r : Refusal) → a ≡ Err r → left ≡ b.held)
     → Holds b → Holds (entered b step (number a) (written a out) left)
-one-call b step out left (Ok c) e k i = rw (done-number c, done-written c out) (unfold entered in accepts b.held step out c e i)
-one-call b step out left (Err r) e k i = rw (refused-number r) (refusal-enters b step (written (Err r) out) left r (k r refl) i)
+one-call b tolerance step out left (Ok c) e k i = rw (done-number c, done-written c out) (unfold entered in accepts tolerance b.held step out c e i)
+one-call b tolerance step out left (Err r) e k i = rw (refused-number r) (refusal-enters b step (written (Err r) out) left r (k r refl) i)
 
 calls : (b : EntryRun) (l : List Call) → Holds b → Holds (after b l)
 unfolding after called
 calls b [] i = i
-calls b (Call·composed step out ∷ l) i = calls (called b (Call·composed step out)) l (one-call b step out b.held (Entries.compose b.held step out) refl (λ r e. refl) i)
-calls b (composed_in_place step ∷ l) i =
-    let a = Entries.compose_in_place b.held step in
-    calls (called b (composed_in_place step)) l (one-call b step b.held (written a b.held) a in_place (λ r e. kept a r e) i)
+calls b (Call·composed step tolerance out ∷ l) i =
+    calls (called b (Call·composed step tolerance out)) l (one-call b tolerance step out b.held (Entries.compose b.held step tolerance out) refl (λ r e. refl) i)
+calls b (composed_in_place step tolerance ∷ l) i =
+    let a = Entries.compose_in_place b.held step tolerance in
+    calls (called b (composed_in_place step tolerance)) l (one-call b tolerance step b.held (written a b.held) a in_place (λ r e. kept a r e) i)
   where
-    in_place : Entries.compose b.held step b.held ≡ Entries.compose_in_place b.held step
+    in_place : Entries.compose b.held step tolerance b.held ≡ Entries.compose_in_place b.held step tolerance
     in_place = unfold Entries.compose_in_place in refl
 
     kept : (a : Answer) (r : Refusal) → a ≡ Err r → written a b.held ≡ b.held
@@ -124,15 +125,15 @@ pub entries-time-sum : (l : List Call) → Within (after start l).n (after start
 entries-time-sum l = le_trans (entries-time-sum-sharp l) (mul-le-mul_right (after start l).M (one_less (after start l).n))
 
 -- ---- the book enters what the contracts say of a call: the number r that it returned, and the bytes that it left
-pub composed-entered : (b : EntryRun) (step out left : List ℕ) (r : ℕ) → Answered (Entries.compose b.held step out) out left r
-    → entered b step r left b.held ≡ called b (Call·composed step out)
+pub composed-entered : (b : EntryRun) (tolerance : Float) (step out left : List ℕ) (r : ℕ) → Answered (Entries.compose b.held step tolerance out) out left r
+    → entered b step r left b.held ≡ called b (Call·composed step tolerance out)
 unfolding called
-composed-entered b step out left r a = rw (a.returned, a.output)
+composed-entered b tolerance step out left r a = rw (a.returned, a.output)
 
-pub in-place-entered : (b : EntryRun) (step left : List ℕ) (r : ℕ) → Answered (Entries.compose_in_place b.held step) b.held left r
-    → entered b step r left left ≡ called b (composed_in_place step)
+pub in-place-entered : (b : EntryRun) (tolerance : Float) (step left : List ℕ) (r : ℕ) → Answered (Entries.compose_in_place b.held step tolerance) b.held left r
+    → entered b step r left left ≡ called b (composed_in_place step tolerance)
 unfolding called
-in-place-entered b step left r a = rw (a.returned, a.output)
+in-place-entered b tolerance step left r a = rw (a.returned, a.output)
 
 -- ---- what is held has an element's length, after every call
 written-length : (a : Answer) (out : List ℕ) → length out ≡ 88 → length (written a out) ≡ 88
@@ -150,10 +151,11 @@ call_length b step out left (Err r) h = rw (refused-number r) (refusal-length b 
 calls-length : (b : EntryRun) (l : List Call) → length b.held ≡ 88 → length (after b l).held ≡ 88
 unfolding after called
 calls-length b [] h = h
-calls-length b (Call·composed step out ∷ l) h = calls-length (called b (Call·composed step out)) l (call_length b step out b.held (Entries.compose b.held step out) h)
-calls-length b (composed_in_place step ∷ l) h =
-    let a = Entries.compose_in_place b.held step in
-    calls-length (called b (composed_in_place step)) l (call_length b step b.held (written a b.held) a (written-length a b.held h))
+calls-length b (Call·composed step tolerance out ∷ l) h =
+    calls-length (called b (Call·composed step tolerance out)) l (call_length b step out b.held (Entries.compose b.held step tolerance out) h)
+calls-length b (composed_in_place step tolerance ∷ l) h =
+    let a = Entries.compose_in_place b.held step tolerance in
+    calls-length (called b (composed_in_place step tolerance)) l (call_length b step b.held (written a b.held) a (written-length a b.held h))
 
 pub held-length : (l : List Call) → length (after start l).held ≡ 88
 held-length l = calls-length start l (unfold start in element-length Elements.identity)

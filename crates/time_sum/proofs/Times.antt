@@ -8,7 +8,7 @@ use lib.Dec.{T, lit<}
 use lib.Ieee.{Float, binary64, add}
 use lib.Ieee.Scale.{finite}
 use Rattle.std.specs.Prelude.{Ok, Err}
-use Rattle.checks.specs.Checks.{Check, and_then, both, tolerance, all_finite, check_param_block}
+use Rattle.checks.specs.Checks.{Check, and_then, both, all_finite, check_param_block}
 use Rattle.checks.specs.declared.Refusal.{Refusal}
 use Rattle.checks.specs.declared.Refusal.TheVariants.{Overflow}
 use Rattle.checks.proofs.Finite.{finite-at}
@@ -73,9 +73,9 @@ composed (Err r) (Ok b) c h = never h
 composed (Err r) (Err s) c h = never h
 
 -- ---- the element of a block that passed
-pub checked : (s : List Float) (e : Element) → Calls.check_element s tolerance ≡ Ok e → e.time ≡ time_of s
+pub checked : (tolerance : Float) (s : List Float) (e : Element) → Calls.check_element s tolerance ≡ Ok e → e.time ≡ time_of s
 unfolding Calls.check_element
-checked s e = go (check_param_block s 11 3 tolerance)
+checked tolerance s e = go (check_param_block s 11 3 tolerance)
   where
     go : (c : Check) → and_then c (λ _. Ok (Elements.element_of s)) ≡ Ok e → e.time ≡ time_of s
     go (Ok passed) h = ap (λ (x : Element). x.time) (sym (same h)) ∙ (unfold Elements.element_of time_of in refl)

@@ -7,10 +7,11 @@ use Rattle.element_bytes.specs.Bytes.{element_bytes}
 use Rattle.handset.specs.Entries as Entries
 use Rattle.handset.specs.Entries.{number, written}
 
--- one call: `sgal3_compose` of the block held and a step into an output, or `sgal3_compose_in_place`; a step and an output are any bytes, of any length
+-- one call: `sgal3_compose_within` of the block held and a step into an output, or `sgal3_compose_in_place_within`; a step and an output are any bytes, of
+-- any length, and the tolerance is any at all. Of `sgal3_compose` and `sgal3_compose_in_place` it is 1e-6.
 pub data Call : Type 0 where
-  composed : (step out : List ℕ) → Call
-  composed_in_place : (step : List ℕ) → Call
+  composed : (step : List ℕ) (tolerance : Float) (out : List ℕ) → Call
+  composed_in_place : (step : List ℕ) (tolerance : Float) → Call
 
 -- the paper's book of demand 3, over bytes: the block held, and of the accepted steps n, S and M
 pub record EntryRun : Type 0 where
@@ -33,8 +34,8 @@ entered b step (suc r) taken left = record { held = left; n = b.n; S = b.S; M = 
 
 -- after an answer the output's bytes are held, after a refusal those held before; in place the bytes held are what the entry leaves, in both cases
 unfoldable pub called : EntryRun → Call → EntryRun
-called b (composed step out) = let a = Entries.compose b.held step out in entered b step (number a) (written a out) b.held
-called b (composed_in_place step) = let a = Entries.compose_in_place b.held step in entered b step (number a) (written a b.held) (written a b.held)
+called b (composed step tolerance out) = let a = Entries.compose b.held step tolerance out in entered b step (number a) (written a out) b.held
+called b (composed_in_place step tolerance) = let a = Entries.compose_in_place b.held step tolerance in entered b step (number a) (written a b.held) (written a b.held)
 
 unfoldable pub after : EntryRun → List Call → EntryRun
 after b [] = b

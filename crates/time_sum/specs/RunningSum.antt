@@ -27,10 +27,19 @@ unfoldable pub entered : RunningSum → List Float → Answer → RunningSum
 entered b step (Ok e) = record { held = e; n = suc b.n; S = b.S +ℤ exact (time_of step); M = b.M + count (time_of step) }
 entered b step (Err r) = b
 
--- one call after another: each composes the element held with its step, which is any block at all
-unfoldable pub after : RunningSum → List (List Float) → RunningSum
+-- a call of compose: its step, any block at all, and its tolerance, any at all
+pub record Call : Type 0 where
+  pub step : List Float
+  pub tolerance : Float
+
+-- one call after another: each composes the element held with its step
+unfoldable pub after : RunningSum → List Call → RunningSum
 after b [] = b
-after b (step ∷ steps) = after (entered b step (Calls.compose (coeffs b.held) step)) steps
+after b (c ∷ cs) = after (entered b c.step (Calls.compose (coeffs b.held) c.step c.tolerance)) cs
+
+unfoldable pub steps : List Call → List (List Float)
+steps [] = []
+steps (c ∷ cs) = c.step ∷ steps cs
 
 -- The only hypothesis, of every step's block. The contract of the call `compose` ensures it of the step that it was handed, and that of `chain` of its blocks.
 abbrev pub Binary64 : List (List Float) → Type 0

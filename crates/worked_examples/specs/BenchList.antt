@@ -73,10 +73,10 @@ valid a = listed (λ (b : Bool). cond b 1 0) (Outcomes.valid a)
 abbrev so3_exp : List Float → Result Rotation Refusal
 so3_exp = Generic.exp So3.tangents So3Elements.values
 
-abbrev so3_log : List Float → Result RotationTangent Refusal
+abbrev so3_log : List Float → Float → Result RotationTangent Refusal
 so3_log = Generic.log So3.group So3Tangents.values
 
-abbrev so3_act : List Float → List Float → Result Vec3 Refusal
+abbrev so3_act : List Float → List Float → Float → Result Vec3 Refusal
 so3_act = Generic.act So3.group
 
 abbrev so3_is_valid : List Float → Float → Result Bool Refusal
@@ -85,10 +85,10 @@ so3_is_valid = Generic.is_valid So3.group
 abbrev sgal3_exp : List Float → Result Element Refusal
 sgal3_exp = Generic.exp SGal3.tangents Elements.coeffs
 
-abbrev sgal3_log : List Float → Result Tangent Refusal
+abbrev sgal3_log : List Float → Float → Result Tangent Refusal
 sgal3_log = Generic.log SGal3.group Tangents.coeffs
 
-abbrev sgal3_act : List Float → List Float → Result Vec3 Refusal
+abbrev sgal3_act : List Float → List Float → Float → Result Vec3 Refusal
 sgal3_act = Generic.act SGal3.group
 
 abbrev sgal3_is_valid : List Float → Float → Result Bool Refusal
@@ -173,34 +173,36 @@ says computed said = record { computed = computed; said = said }
 unfoldable pub bench_list : List Example
 bench_list =
     -- A then B; inverse A; the inverse of the identity: every zero turns into -0
-    says (answer (Calls.compose A B)) (0 ∷ ten ∷ three ∷ four ∷ one ∷ zero ∷ zero ∷ zero ∷ four ∷ two ∷ zero ∷ two_and_a_half ∷ [])
-    ∷ says (answer (Calls.inverse A)) (0 ∷ one ∷ minus_two ∷ minus_three ∷ one ∷ minus_zero ∷ minus_zero ∷ minus_zero ∷ minus_four ∷ minus_zero ∷ minus_zero ∷ minus_half ∷ [])
-    ∷ says (answer (Calls.inverse (block one zero)))
+    says (answer (Calls.compose A B tolerance)) (0 ∷ ten ∷ three ∷ four ∷ one ∷ zero ∷ zero ∷ zero ∷ four ∷ two ∷ zero ∷ two_and_a_half ∷ [])
+    ∷ says (answer (Calls.inverse A tolerance)) (0 ∷ one ∷ minus_two ∷ minus_three ∷ one ∷ minus_zero ∷ minus_zero ∷ minus_zero ∷ minus_four ∷ minus_zero ∷ minus_zero ∷ minus_half ∷ [])
+    ∷ says (answer (Calls.inverse (block one zero) tolerance))
     (0 ∷ minus_zero ∷ minus_zero ∷ minus_zero ∷ one ∷ minus_zero ∷ minus_zero ∷ minus_zero ∷ minus_zero ∷ minus_zero ∷ minus_zero ∷ minus_zero ∷ [])
     -- (0.5,0.5,0.5,0.5) rotates (1,2,3) to (3,1,2), and (0,0,0,1) to (-1,-2,3): act of SO3 and of SGal3
-    ∷ says (vector (so3_act (floats (half ∷ half ∷ half ∷ half ∷ [])) p123)) (0 ∷ three ∷ one ∷ two ∷ [])
-    ∷ says (vector (so3_act (floats (zero ∷ zero ∷ zero ∷ one ∷ [])) p123)) (0 ∷ minus_one ∷ minus_two ∷ three ∷ [])
-    ∷ says (vector (sgal3_act (turned (half ∷ half ∷ half ∷ half ∷ [])) p123)) (0 ∷ three ∷ one ∷ two ∷ [])
-    ∷ says (vector (sgal3_act (turned (zero ∷ zero ∷ zero ∷ one ∷ [])) p123)) (0 ∷ minus_one ∷ minus_two ∷ three ∷ [])
+    ∷ says (vector (so3_act (floats (half ∷ half ∷ half ∷ half ∷ [])) p123 tolerance)) (0 ∷ three ∷ one ∷ two ∷ [])
+    ∷ says (vector (so3_act (floats (zero ∷ zero ∷ zero ∷ one ∷ [])) p123 tolerance)) (0 ∷ minus_one ∷ minus_two ∷ three ∷ [])
+    ∷ says (vector (sgal3_act (turned (half ∷ half ∷ half ∷ half ∷ [])) p123 tolerance)) (0 ∷ three ∷ one ∷ two ∷ [])
+    ∷ says (vector (sgal3_act (turned (zero ∷ zero ∷ zero ∷ one ∷ [])) p123 tolerance)) (0 ∷ minus_one ∷ minus_two ∷ three ∷ [])
     -- w = 1 + 2 ^ -20 is accepted; w = 1 + 2 ^ -19, 2 ^ 511: 3 with that norm; 2 ^ 512: 2; all four zero: 3, norm 0
-    ∷ says (check (validate_sgal3_params (block 0x3ff0_0001_0000_0000 zero))) (0 ∷ [])
-    ∷ says (check (validate_sgal3_params (block 0x3ff0_0002_0000_0000 zero))) (3 ∷ 0x3ff0_0002_0000_0000 ∷ [])
-    ∷ says (check (validate_sgal3_params (block 0x5fe0_0000_0000_0000 zero))) (3 ∷ 0x5fe0_0000_0000_0000 ∷ [])
-    ∷ says (check (validate_sgal3_params (block 0x5ff0_0000_0000_0000 zero))) (2 ∷ [])
-    ∷ says (check (validate_sgal3_params (block zero zero))) (3 ∷ zero ∷ [])
+    ∷ says (check (validate_sgal3_params (block 0x3ff0_0001_0000_0000 zero) tolerance)) (0 ∷ [])
+    ∷ says (check (validate_sgal3_params (block 0x3ff0_0002_0000_0000 zero) tolerance)) (3 ∷ 0x3ff0_0002_0000_0000 ∷ [])
+    ∷ says (check (validate_sgal3_params (block 0x5fe0_0000_0000_0000 zero) tolerance)) (3 ∷ 0x5fe0_0000_0000_0000 ∷ [])
+    ∷ says (check (validate_sgal3_params (block 0x5ff0_0000_0000_0000 zero) tolerance)) (2 ∷ [])
+    ∷ says (check (validate_sgal3_params (block zero zero) tolerance)) (3 ∷ zero ∷ [])
+    -- norm 2 and the tolerance 0: 7
+    ∷ says (check (validate_sgal3_params (block two zero) (of_bits binary64 zero))) (7 ∷ [])
     -- ten values, one of them a NaN: 1; a NaN time and norm 2: 2
-    ∷ says (answer (Calls.inverse (floats (one ∷ two ∷ nan ∷ one ∷ zero ∷ zero ∷ zero ∷ four ∷ zero ∷ zero ∷ [])))) (1 ∷ 11 ∷ 10 ∷ [])
-    ∷ says (answer (Calls.inverse (block two nan))) (2 ∷ [])
+    ∷ says (answer (Calls.inverse (floats (one ∷ two ∷ nan ∷ one ∷ zero ∷ zero ∷ zero ∷ four ∷ zero ∷ zero ∷ [])) tolerance)) (1 ∷ 11 ∷ 10 ∷ [])
+    ∷ says (answer (Calls.inverse (block two nan) tolerance)) (2 ∷ [])
     -- the empty chain is the identity; the chain of A and B is A then B
-    ∷ says (answer (Calls.chain [])) (0 ∷ zero ∷ zero ∷ zero ∷ one ∷ zero ∷ zero ∷ zero ∷ zero ∷ zero ∷ zero ∷ zero ∷ [])
-    ∷ says (answer (Calls.chain (A ++ B))) (0 ∷ ten ∷ three ∷ four ∷ one ∷ zero ∷ zero ∷ zero ∷ four ∷ two ∷ zero ∷ two_and_a_half ∷ [])
+    ∷ says (answer (Calls.chain [] tolerance)) (0 ∷ zero ∷ zero ∷ zero ∷ one ∷ zero ∷ zero ∷ zero ∷ zero ∷ zero ∷ zero ∷ zero ∷ [])
+    ∷ says (answer (Calls.chain (A ++ B) tolerance)) (0 ∷ ten ∷ three ∷ four ∷ one ∷ zero ∷ zero ∷ zero ∷ four ∷ two ∷ zero ∷ two_and_a_half ∷ [])
     -- exp with theta (2 ^ -17, 0, 0): w = 1 - 2 ^ -37, x = 2 ^ -18 * (1 - 2 ^ -37); theta (2 ^ -16, 0, 0): 4
     ∷ says (rotation (so3_exp (along_x 0x3ee0_0000_0000_0000))) (0 ∷ 0x3fef_ffff_ffff_0000 ∷ 0x3ecf_ffff_ffff_0000 ∷ zero ∷ zero ∷ [])
     ∷ says (rotation (so3_exp (along_x 0x3ef0_0000_0000_0000))) (4 ∷ [])
     -- log tests the half angle: (1, 2 ^ -17, 0, 0) is answered, and with w below zero by -2; its Jacobian tests the whole angle as well: 4, all +0
-    ∷ says (tangent (so3_log (near one))) (0 ∷ 0x3eef_ffff_fffc_0000 ∷ zero ∷ zero ∷ [])
-    ∷ says (tangent (so3_log (near minus_one))) (0 ∷ 0xbeef_ffff_fffc_0000 ∷ minus_zero ∷ minus_zero ∷ [])
-    ∷ says (matrix (Rotations.log_jacobian (near one))) (4 ∷ zero ∷ zero ∷ zero ∷ zero ∷ zero ∷ zero ∷ zero ∷ zero ∷ zero ∷ [])
+    ∷ says (tangent (so3_log (near one) tolerance)) (0 ∷ 0x3eef_ffff_fffc_0000 ∷ zero ∷ zero ∷ [])
+    ∷ says (tangent (so3_log (near minus_one) tolerance)) (0 ∷ 0xbeef_ffff_fffc_0000 ∷ minus_zero ∷ minus_zero ∷ [])
+    ∷ says (matrix (Rotations.log_jacobian (near one) tolerance)) (4 ∷ zero ∷ zero ∷ zero ∷ zero ∷ zero ∷ zero ∷ zero ∷ zero ∷ zero ∷ [])
     -- the left Jacobian, and the right one, its transpose
     ∷ says (matrix (Rotations.left_jacobian (along_x 0x3ee0_0000_0000_0000)))
     (0 ∷ one ∷ zero ∷ zero ∷ zero ∷ one ∷ 0xbed0_0000_0000_0000 ∷ zero ∷ 0x3ed0_0000_0000_0000 ∷ one ∷ [])
@@ -212,34 +214,35 @@ bench_list =
     -- exp of rho (1, 0, 0), nu (0, 2, 0), theta 0, s 3: t = (1, 3, 0); log returns the tangent
     ∷ says (answer (sgal3_exp (floats (one ∷ zero ∷ zero ∷ zero ∷ two ∷ zero ∷ zero ∷ zero ∷ zero ∷ three ∷ []))))
     (0 ∷ one ∷ three ∷ zero ∷ one ∷ zero ∷ zero ∷ zero ∷ zero ∷ two ∷ zero ∷ three ∷ [])
-    ∷ says (galilean_tangent (sgal3_log (floats (one ∷ three ∷ zero ∷ one ∷ zero ∷ zero ∷ zero ∷ zero ∷ two ∷ zero ∷ three ∷ []))))
+    ∷ says (galilean_tangent (sgal3_log (floats (one ∷ three ∷ zero ∷ one ∷ zero ∷ zero ∷ zero ∷ zero ∷ two ∷ zero ∷ three ∷ [])) tolerance))
     (0 ∷ one ∷ zero ∷ zero ∷ zero ∷ two ∷ zero ∷ zero ∷ zero ∷ zero ∷ three ∷ [])
     -- SGal3's exp with the same thetas as SO3's
     ∷ says (answer (sgal3_exp (turn_x 0x3ee0_0000_0000_0000)))
     (0 ∷ zero ∷ zero ∷ zero ∷ 0x3fef_ffff_ffff_0000 ∷ 0x3ecf_ffff_ffff_0000 ∷ zero ∷ zero ∷ zero ∷ zero ∷ zero ∷ zero ∷ [])
     ∷ says (answer (sgal3_exp (turn_x 0x3ef0_0000_0000_0000))) (4 ∷ [])
     -- q = (1, 2 ^ -17, 0, 0): SGal3's log refuses 4, since it tests the squared theta of its own answer as well
-    ∷ says (galilean_tangent (sgal3_log (floats (zero ∷ zero ∷ zero ∷ one ∷ 0x3ee0_0000_0000_0000 ∷ zero ∷ zero ∷ zero ∷ zero ∷ zero ∷ zero ∷ [])))) (4 ∷ [])
+    ∷ says (galilean_tangent (sgal3_log (floats (zero ∷ zero ∷ zero ∷ one ∷ 0x3ee0_0000_0000_0000 ∷ zero ∷ zero ∷ zero ∷ zero ∷ zero ∷ zero ∷ [])) tolerance)) (4 ∷ [])
     -- SGal3's is_valid of [0, 0, 0 | 2, 0, 0, 0 | 0, 0, 0 | 0] with 1e-6: yes; with tolerance 0: no
     ∷ says (valid (sgal3_is_valid (block two zero) tolerance)) (0 ∷ 1 ∷ [])
     ∷ says (valid (sgal3_is_valid (block two zero) (of_bits binary64 zero))) (0 ∷ 0 ∷ [])
     -- log of A: rho = t - s/2 v; A acts on (1, 2, 3) by t + s v
-    ∷ says (galilean_tangent (sgal3_log A)) (0 ∷ zero ∷ two ∷ three ∷ four ∷ zero ∷ zero ∷ zero ∷ zero ∷ zero ∷ half ∷ [])
-    ∷ says (vector (sgal3_act A p123)) (0 ∷ four ∷ four ∷ 0x4018_0000_0000_0000 ∷ [])
+    ∷ says (galilean_tangent (sgal3_log A tolerance)) (0 ∷ zero ∷ two ∷ three ∷ four ∷ zero ∷ zero ∷ zero ∷ zero ∷ zero ∷ half ∷ [])
+    ∷ says (vector (sgal3_act A p123 tolerance)) (0 ∷ four ∷ four ∷ 0x4018_0000_0000_0000 ∷ [])
     -- the C entries on bytes: A then B into an output and in place, the inverse of A, the chain of A and B, the empty chain
-    ∷ says (entry (Entries.compose bytes_a bytes_b out88) out88) (0 ∷ bytes_ab)
-    ∷ says (entry (Entries.compose_in_place bytes_a bytes_b) bytes_a) (0 ∷ bytes_ab)
-    ∷ says (entry (Entries.inverse bytes_a out88) out88)
+    ∷ says (entry (Entries.compose bytes_a bytes_b tolerance out88) out88) (0 ∷ bytes_ab)
+    ∷ says (entry (Entries.compose_in_place bytes_a bytes_b tolerance) bytes_a) (0 ∷ bytes_ab)
+    ∷ says (entry (Entries.inverse bytes_a tolerance out88) out88)
     (0
     ∷ numbers
     (0xf0 ∷ 0x3f ∷ 0x00 ∷ 0xc0 ∷ 0x08 ∷ 0xc0 ∷ 0xf0 ∷ 0x3f ∷ 0x00 ∷ 0x80 ∷ 0x00 ∷ 0x80 ∷ 0x00 ∷ 0x80 ∷ 0x10 ∷ 0xc0 ∷ 0x00 ∷ 0x80 ∷ 0x00 ∷ 0x80 ∷ 0xe0 ∷ 0xbf ∷ []))
-    ∷ says (entry (Entries.chain (bytes_a ++ bytes_b) out88) out88) (0 ∷ bytes_ab)
-    ∷ says (entry (Entries.chain [] out88) out88)
+    ∷ says (entry (Entries.chain (bytes_a ++ bytes_b) tolerance out88) out88) (0 ∷ bytes_ab)
+    ∷ says (entry (Entries.chain [] tolerance out88) out88)
     (0
     ∷ numbers
     (0x00 ∷ 0x00 ∷ 0x00 ∷ 0x00 ∷ 0x00 ∷ 0x00 ∷ 0xf0 ∷ 0x3f ∷ 0x00 ∷ 0x00 ∷ 0x00 ∷ 0x00 ∷ 0x00 ∷ 0x00 ∷ 0x00 ∷ 0x00 ∷ 0x00 ∷ 0x00 ∷ 0x00 ∷ 0x00 ∷ 0x00 ∷ 0x00 ∷ []))
-    -- a NaN time: 2, an output of 87 bytes: 1, and nothing is written
-    ∷ says (entry (Entries.compose bytes_a bytes_nan out88) out88) (2 ∷ out88)
-    ∷ says (entry (Entries.compose_in_place bytes_a bytes_nan) bytes_a) (2 ∷ bytes_a)
-    ∷ says (entry (Entries.compose bytes_a bytes_b out87) out87) (1 ∷ out87)
+    -- a NaN time: 2, an output of 87 bytes: 1, the empty chain with tolerance 0: 7, and nothing is written
+    ∷ says (entry (Entries.compose bytes_a bytes_nan tolerance out88) out88) (2 ∷ out88)
+    ∷ says (entry (Entries.compose_in_place bytes_a bytes_nan tolerance) bytes_a) (2 ∷ bytes_a)
+    ∷ says (entry (Entries.compose bytes_a bytes_b tolerance out87) out87) (1 ∷ out87)
+    ∷ says (entry (Entries.chain [] (of_bits binary64 zero) out88) out88) (7 ∷ out88)
     ∷ []

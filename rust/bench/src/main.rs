@@ -1,14 +1,17 @@
 //! handset_bench: times the C entries of the static library beside the same calls in plain Rust, and prints a table.
 //!
-//! All are called through a pointer to an `extern "C"` function. Rounds of the candidates alternate, and a figure is the median
+//! All are `extern "C"` functions that are not inlined. Rounds of the candidates alternate, and a figure is the median
 //! of its rounds. First all answers are compared, bit for bit.
 mod calls;
 mod plain;
 mod runs;
 
-use handset::entries::{sgal3_chain, sgal3_compose, sgal3_inverse};
+use handset::entries::{
+    sgal3_chain, sgal3_chain_within, sgal3_compose, sgal3_compose_within, sgal3_inverse,
+    sgal3_inverse_within,
+};
 use handset::{Element, CHAIN_MOST, ELEMENT_BYTES};
-use plain::{Plain, Source};
+use plain::{Plain, Source, Way, Wide};
 use std::hint::black_box;
 use std::time::Instant;
 
@@ -16,71 +19,81 @@ type OfTwo = unsafe extern "C" fn(*const u8, u64, *const u8, u64, *mut u8, u64) 
 type OfOne = unsafe extern "C" fn(*const u8, u64, *mut u8, u64) -> u32;
 type Block = [u8; ELEMENT_BYTES];
 
-/// The three calls of one candidate.
+/// The three calls of one candidate: at a fixed tolerance, or at the one that is handed in.
 #[derive(Clone, Copy)]
-struct Entries {
-    compose: OfTwo,
-    inverse: OfOne,
-    chain: OfOne,
+enum Entries {
+    Fixed {
+        compose: OfTwo,
+        inverse: OfOne,
+        chain: OfOne,
+    },
+    /// The library's.
+    Within(f64),
 }
 
-const CANDIDATES: [Entries; 3] = [
-    Entries {
-        compose: sgal3_compose,
-        inverse: sgal3_inverse,
-        chain: sgal3_chain,
-    },
-    Entries {
-        compose: plain::compose::<Source>,
-        inverse: plain::inverse::<Source>,
-        chain: plain::chain::<Source>,
-    },
-    Entries {
-        compose: plain::compose::<Plain>,
-        inverse: plain::inverse::<Plain>,
-        chain: plain::chain::<Plain>,
-    },
+type Candidates = [Entries; 3];
+
+const LIBRARY: Entries = Entries::Fixed {
+    compose: sgal3_compose,
+    inverse: sgal3_inverse,
+    chain: sgal3_chain,
+};
+
+const fn in_rust<W: Way>() -> Entries {
+    Entries::Fixed {
+        compose: plain::compose::<W>,
+        inverse: plain::inverse::<W>,
+        chain: plain::chain::<W>,
+    }
+}
+
+const CANDIDATES: Candidates = [LIBRARY, in_rust::<Source>(), in_rust::<Plain>()];
+const WITHIN: Candidates = [
+    Entries::Within(1e-6),
+    in_rust::<Source>(),
+    in_rust::<Plain>(),
+];
+const WIDE: Candidates = [
+    Entries::Within(5e-4),
+    in_rust::<Wide<Source>>(),
+    in_rust::<Wide<Plain>>(),
 ];
 
 impl Entries {
     fn compose(&self, left: &[u8], right: &[u8], out: &mut Block) -> u32 {
-        let f = self.compose;
+        let (l, r) = (left.as_ptr(), right.as_ptr());
+        let (l_len, r_len) = (left.len() as u64, right.len() as u64);
+        let (to, to_len) = (out.as_mut_ptr(), out.len() as u64);
         // SAFETY: each pointer and length are those of one slice, and `out` is borrowed mutably, so it overlaps no input.
         unsafe {
-            f(
-                left.as_ptr(),
-                left.len() as u64,
-                right.as_ptr(),
-                right.len() as u64,
-                out.as_mut_ptr(),
-                out.len() as u64,
-            )
+            match *self {
+                Entries::Fixed { compose, .. } => compose(l, l_len, r, r_len, to, to_len),
+                Entries::Within(t) => sgal3_compose_within(l, l_len, r, r_len, t, to, to_len),
+            }
         }
     }
 
     fn inverse(&self, block: &[u8], out: &mut Block) -> u32 {
-        let f = self.inverse;
+        let (from, len) = (block.as_ptr(), block.len() as u64);
+        let (to, to_len) = (out.as_mut_ptr(), out.len() as u64);
         // SAFETY: each pointer and length are those of one slice, and `out` is borrowed mutably, so it doesn't overlap `block`.
         unsafe {
-            f(
-                block.as_ptr(),
-                block.len() as u64,
-                out.as_mut_ptr(),
-                out.len() as u64,
-            )
+            match *self {
+                Entries::Fixed { inverse, .. } => inverse(from, len, to, to_len),
+                Entries::Within(t) => sgal3_inverse_within(from, len, t, to, to_len),
+            }
         }
     }
 
     fn chain(&self, blocks: &[u8], out: &mut Block) -> u32 {
-        let f = self.chain;
+        let (from, len) = (blocks.as_ptr(), blocks.len() as u64);
+        let (to, to_len) = (out.as_mut_ptr(), out.len() as u64);
         // SAFETY: each pointer and length are those of one slice, and `out` is borrowed mutably, so it doesn't overlap `blocks`.
         unsafe {
-            f(
-                blocks.as_ptr(),
-                blocks.len() as u64,
-                out.as_mut_ptr(),
-                out.len() as u64,
-            )
+            match *self {
+                Entries::Fixed { chain, .. } => chain(from, len, to, to_len),
+                Entries::Within(t) => sgal3_chain_within(from, len, t, to, to_len),
+            }
         }
     }
 }
@@ -111,12 +124,12 @@ fn median(mut list: Vec<f64>) -> f64 {
 
 /// The median nanoseconds of a step of each candidate. A round of few steps is repeated until it has as many as the longest chain,
 /// so that the clock's own time does not show.
-fn times(round: Round, steps: &[Block]) -> [f64; CANDIDATES.len()] {
+fn times(round: Round, candidates: &Candidates, steps: &[Block]) -> [f64; 3] {
     let repeats = CHAIN_MOST / steps.len();
-    let mut rounds = CANDIDATES.map(|_| Vec::with_capacity(ROUNDS));
+    let mut rounds = candidates.map(|_| Vec::with_capacity(ROUNDS));
     let mut out = [0; ELEMENT_BYTES];
     for _ in 0..ROUNDS {
-        for (entries, list) in CANDIDATES.iter().zip(&mut rounds) {
+        for (entries, list) in candidates.iter().zip(&mut rounds) {
             let start = Instant::now();
             let mut refused = 0;
             for _ in 0..repeats {
@@ -180,12 +193,12 @@ fn unit(g: &mut Random) -> [f64; 4] {
     }
 }
 
-/// A unit quaternion times 1 + 1e-7 or 1 - 1e-7.
-fn off_unit(g: &mut Random) -> [f64; 4] {
+/// A unit quaternion whose norm is then so far from 1, above or below.
+fn off(g: &mut Random, distance: f64) -> [f64; 4] {
     let scale = if g.next() & 1 == 0 {
-        1.0 + 1e-7
+        1.0 + distance
     } else {
-        1.0 - 1e-7
+        1.0 - distance
     };
     unit(g).map(|x| x * scale)
 }
@@ -280,14 +293,19 @@ fn call_times(call: &Call) -> [f64; 2] {
 }
 
 fn main() {
-    let classes = [
-        ("normalised twice", steps(unit)),
-        ("1e-7 off", steps(off_unit)),
-        ("no rotation", steps(no_turn)),
+    let fixed = [
+        class("normalised twice", unit, CANDIDATES),
+        class("1e-7 off", |g| off(g, 1e-7), CANDIDATES),
+        class("no rotation", no_turn, CANDIDATES),
+    ];
+    let within = [
+        class("normalised twice, within 1e-6", unit, WITHIN),
+        class("1e-4 off, within 5e-4", |g| off(g, 1e-4), WIDE),
     ];
     let mut compared = 0;
-    for (name, steps) in &classes {
-        let [ours, source, plain] = CANDIDATES.map(|entries| answers(&entries, steps));
+    for class in fixed.iter().chain(&within) {
+        let Class { name, steps, .. } = class;
+        let [ours, source, plain] = class.candidates.map(|entries| answers(&entries, steps));
         assert!(
             ours.iter().all(|(number, _)| *number == 0),
             "{name}: refused"
@@ -298,30 +316,48 @@ fn main() {
     }
     println!("{compared} answers of each are the same, bit for bit.\n");
 
-    entry_table(&classes);
+    entry_table(fixed.iter().chain(&within));
     println!();
-    chain_table(&classes);
+    chain_table(&fixed);
     println!();
-    run_table(&classes);
+    run_table(&fixed);
     println!();
     call_table();
 }
 
-type Class = (&'static str, Vec<Block>);
+/// Steps of one kind, and who is timed on them.
+struct Class {
+    name: &'static str,
+    steps: Vec<Block>,
+    candidates: Candidates,
+}
+
+fn class(
+    name: &'static str,
+    quaternion: fn(&mut Random) -> [f64; 4],
+    candidates: Candidates,
+) -> Class {
+    Class {
+        name,
+        steps: steps(quaternion),
+        candidates,
+    }
+}
 
 /// The table of the entries.
-fn entry_table(classes: &[Class]) {
+fn entry_table<'a>(classes: impl Iterator<Item = &'a Class>) {
     println!(
         "| quaternions | call | library, ns | source, ns | plain, ns | library / source | library / plain |"
     );
     println!("|---|---|---:|---:|---:|---:|---:|");
-    for (name, steps) in classes {
+    for class in classes {
+        let name = class.name;
         for (call, round) in [
             ("chain, per step", chain_round as Round),
             ("compose", compose_round),
             ("inverse", inverse_round),
         ] {
-            let [ours, source, plain] = times(round, steps);
+            let [ours, source, plain] = times(round, &class.candidates, &class.steps);
             println!(
                 "| {name} | {call} | {ours:.1} | {source:.1} | {plain:.1} | {:.2} | {:.2} |",
                 ours / source,
@@ -337,9 +373,11 @@ fn chain_table(classes: &[Class]) {
         "| quaternions | blocks | library, ns a block | plain, ns a block | library / plain |"
     );
     println!("|---|---:|---:|---:|---:|");
-    for (name, steps) in classes {
+    for class in classes {
+        let name = class.name;
         for blocks in [1, 16, 256, CHAIN_MOST] {
-            let [ours, _, plain] = times(chain_round, &steps[..blocks]);
+            let steps = &class.steps[..blocks];
+            let [ours, _, plain] = times(chain_round, &class.candidates, steps);
             println!(
                 "| {name} | {blocks} | {ours:.1} | {plain:.1} | {:.2} |",
                 ours / plain
@@ -354,7 +392,7 @@ fn run_table(classes: &[Class]) {
         "| quaternions | by turns, ns | copied back, ns | in place, ns | in place / by turns |"
     );
     println!("|---|---:|---:|---:|---:|");
-    for (name, steps) in classes {
+    for Class { name, steps, .. } in classes {
         let [turns, copied, in_place] = runs::times(steps);
         println!(
             "| {name} | {turns:.1} | {copied:.1} | {in_place:.1} | {:.2} |",

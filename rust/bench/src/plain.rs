@@ -5,6 +5,7 @@
 use apex::sgal3::SGal3;
 use apex::LieGroup;
 use handset::{CHAIN_MOST, ELEMENT_BYTES};
+use std::marker::PhantomData;
 
 #[derive(Clone, Copy)]
 struct Vector {
@@ -163,8 +164,9 @@ impl Motion {
     }
 }
 
-/// Whose operations of the group are timed.
+/// Whose operations of the group are timed, and how far a norm may be from 1.
 pub trait Way {
+    const TOLERANCE: f64 = 1e-6;
     fn compose(a: Motion, b: Motion) -> Motion;
     fn inverse(a: Motion) -> Motion;
 }
@@ -174,6 +176,21 @@ pub struct Source;
 
 /// Plain Rust: a quaternion is normalised as often as in the source, and all calls of one compose share the result.
 pub struct Plain;
+
+/// The same at the tolerance 5e-4.
+pub struct Wide<W>(PhantomData<W>);
+
+impl<W: Way> Way for Wide<W> {
+    const TOLERANCE: f64 = 5e-4;
+
+    fn compose(a: Motion, b: Motion) -> Motion {
+        W::compose(a, b)
+    }
+
+    fn inverse(a: Motion) -> Motion {
+        W::inverse(a)
+    }
+}
 
 impl Way for Source {
     fn compose(a: Motion, b: Motion) -> Motion {
@@ -230,7 +247,7 @@ fn all_finite(values: &[f64; 11]) -> bool {
     values.iter().all(|x| x.is_finite())
 }
 
-fn check(block: &[u8]) -> Answer {
+fn check<W: Way>(block: &[u8]) -> Answer {
     let Ok(block): Result<&[u8; ELEMENT_BYTES], _> = block.try_into() else {
         return Err(1);
     };
@@ -244,7 +261,7 @@ fn check(block: &[u8]) -> Answer {
     if !norm.is_finite() {
         return Err(2);
     }
-    if (norm - 1.0).abs() > 1e-6 {
+    if (norm - 1.0).abs() > W::TOLERANCE {
         return Err(3);
     }
     Ok(Motion::of(&values))
@@ -301,7 +318,10 @@ pub unsafe extern "C" fn compose<W: Way>(
     if out.len() != ELEMENT_BYTES {
         return 1;
     }
-    finish(compose_answers::<W>(check(left), check(right)), out)
+    finish(
+        compose_answers::<W>(check::<W>(left), check::<W>(right)),
+        out,
+    )
 }
 
 /// # Safety
@@ -325,7 +345,7 @@ pub unsafe extern "C" fn inverse<W: Way>(
         return 1;
     }
     finish(
-        check(block).and_then(|a| unless_overflow(W::inverse(a))),
+        check::<W>(block).and_then(|a| unless_overflow(W::inverse(a))),
         out,
     )
 }
@@ -353,10 +373,10 @@ pub unsafe extern "C" fn chain<W: Way>(
     if blocks.len() > CHAIN_MOST * ELEMENT_BYTES || blocks.len() % ELEMENT_BYTES != 0 {
         return 1;
     }
-    // A refusal doesn't end the pass, since a later block may have a smaller number.
+    // A refusal doesn't end the pass, since a later block's refusal may be tried earlier.
     let mut held = Ok(IDENTITY);
     for block in blocks.chunks_exact(ELEMENT_BYTES) {
-        held = compose_answers::<W>(held, check(block));
+        held = compose_answers::<W>(held, check::<W>(block));
     }
     finish(held, out)
 }

@@ -5,8 +5,8 @@ use core::slice;
 
 /// A motion: rotation, translation, velocity and time.
 ///
-/// The fields may hold any numbers. A call refuses those that are not finite, and a quaternion whose norm is more than
-/// 1e-6 away from 1. `==` compares numbers, so -0 equals +0 there; [`to_bytes`](Element::to_bytes) tells them apart.
+/// The fields may hold any numbers. A call refuses those that are not finite, and a quaternion whose norm is further from
+/// 1 than the tolerance. `==` compares numbers, so -0 equals +0 there; [`to_bytes`](Element::to_bytes) tells them apart.
 #[derive(Clone, Copy, Debug, PartialEq)]
 #[repr(C)]
 pub struct Element {

@@ -65,6 +65,43 @@ impl Held {
         done(entries::compose_in_place(&mut self.bytes, step))
     }
 
+    /// Takes a step after what is held, at a tolerance, to which both are held. If it is refused, what was held is still
+    /// held, bit for bit.
+    ///
+    /// ```
+    /// use handset::{Element, Held, Refusal};
+    ///
+    /// let mut held = Held::new();
+    /// let step = Element { rotation: [1.0005, 0.0, 0.0, 0.0], time: 0.25, ..Element::IDENTITY };
+    /// assert_eq!(held.step(&step), Err(Refusal::NotUnit));
+    /// held.step_within(&step, 9e-4)?;
+    /// assert_eq!(held.step_within(&step, f64::NAN), Err(Refusal::Tolerance));
+    /// assert_eq!(held.time(), 0.25);
+    /// # Ok::<(), Refusal>(())
+    /// ```
+    pub fn step_within(&mut self, step: &Element, tolerance: f64) -> Result<(), Refusal> {
+        self.step_bytes_within(step.as_bytes(), tolerance)
+    }
+
+    /// Takes a step at a tolerance, given as its [`ELEMENT_BYTES`] bytes. If it is refused, as [`Refusal::Length`] where
+    /// it has another length, what was held is still held, bit for bit.
+    ///
+    /// ```
+    /// use handset::{Element, Held, Refusal};
+    ///
+    /// let mut held = Held::new();
+    /// let received = Element { rotation: [1.0005, 0.0, 0.0, 0.0], ..Element::IDENTITY }.to_bytes();
+    /// assert_eq!(held.step_bytes_within(&received, 1e-4), Err(Refusal::NotUnit));
+    /// assert_eq!(held.step_bytes_within(&received, 9e-4), Ok(()));
+    /// ```
+    pub fn step_bytes_within(&mut self, step: &[u8], tolerance: f64) -> Result<(), Refusal> {
+        done(entries::compose_in_place_within(
+            &mut self.bytes,
+            step,
+            tolerance,
+        ))
+    }
+
     /// What is held, by its values.
     pub fn element(&self) -> Element {
         Element::from_bytes(&self.bytes)

@@ -32,6 +32,21 @@
 //! # Ok::<(), Refusal>(())
 //! ```
 //!
+//! A norm may be 1e-6 away from 1. Where a sensor rounds its quaternions to fewer digits, the calls that end in `_within`
+//! take another tolerance, above 0 and at most 1/1024. Only what is handed in is held to it, and no element made on the
+//! way.
+//!
+//! ```
+//! use handset::{Element, Held, Refusal};
+//!
+//! let rounded = Element { rotation: [0.7071, 0.7071, 0.0, 0.0], ..Element::IDENTITY };
+//! let mut held = Held::new();
+//! assert_eq!(held.step(&rounded), Err(Refusal::NotUnit));
+//! held.step_within(&rounded, 1e-4)?;
+//! assert_eq!(held.step_within(&rounded, 0.1), Err(Refusal::Tolerance));
+//! # Ok::<(), Refusal>(())
+//! ```
+//!
 //! The library relies on the floating-point environment that a program starts with: rounding to nearest, subnormal
 //! numbers kept.
 //!
@@ -109,6 +124,63 @@ pub fn chain(steps: &[Element]) -> Result<Element, Refusal> {
 /// ```
 pub fn chain_bytes(blocks: &[u8]) -> Result<Element, Refusal> {
     answer(|out| entries::chain(blocks, out))
+}
+
+/// The step `right` taken after `left`, at a tolerance.
+///
+/// ```
+/// use handset::{compose, compose_within, Element, Refusal};
+///
+/// let rounded = Element { rotation: [1.0005, 0.0, 0.0, 0.0], ..Element::IDENTITY };
+/// assert_eq!(compose(&rounded, &rounded), Err(Refusal::NotUnit));
+/// assert_eq!(compose_within(&rounded, &rounded, 9e-4), Ok(Element::IDENTITY));
+/// ```
+pub fn compose_within(left: &Element, right: &Element, tolerance: f64) -> Result<Element, Refusal> {
+    answer(|out| entries::compose_within(left.as_bytes(), right.as_bytes(), tolerance, out))
+}
+
+/// The step that undoes `element`, at a tolerance.
+///
+/// ```
+/// use handset::{inverse, inverse_within, Element, Refusal};
+///
+/// let rounded = Element { rotation: [1.0005, 0.0, 0.0, 0.0], ..Element::IDENTITY };
+/// assert_eq!(inverse(&rounded), Err(Refusal::NotUnit));
+/// assert_eq!(inverse_within(&rounded, 9e-4), Ok(Element::IDENTITY));
+/// assert_eq!(inverse_within(&rounded, f64::NAN), Err(Refusal::Tolerance));
+/// ```
+pub fn inverse_within(element: &Element, tolerance: f64) -> Result<Element, Refusal> {
+    answer(|out| entries::inverse_within(element.as_bytes(), tolerance, out))
+}
+
+/// The steps, composed from the identity at a tolerance: at most [`CHAIN_MOST`]. They are read where they stand, with no
+/// copy. A partial element is no step, and isn't held to the tolerance.
+///
+/// ```
+/// use handset::{chain_within, Element, Refusal};
+///
+/// let rounded = Element { rotation: [1.0005, 0.0, 0.0, 0.0], time: 0.25, ..Element::IDENTITY };
+/// assert_eq!(chain_within(&[rounded; 2], 9e-4).map(|total| total.time), Ok(0.5));
+/// assert_eq!(chain_within(&[rounded; 2], 1e-4), Err(Refusal::NotUnit));
+/// assert_eq!(chain_within(&[], 0.0), Err(Refusal::Tolerance));
+/// ```
+pub fn chain_within(steps: &[Element], tolerance: f64) -> Result<Element, Refusal> {
+    chain_bytes_within(element::bytes_of(steps), tolerance)
+}
+
+/// The steps of `blocks`, composed from the identity at a tolerance: at most [`CHAIN_MOST`] elements' bytes, laid end to
+/// end.
+///
+/// ```
+/// use handset::{chain_bytes_within, Element, Refusal};
+///
+/// let step = Element { rotation: [1.0005, 0.0, 0.0, 0.0], time: 0.25, ..Element::IDENTITY };
+/// let steps = [step.to_bytes(), step.to_bytes()];
+/// assert_eq!(chain_bytes_within(steps.as_flattened(), 9e-4).map(|total| total.time), Ok(0.5));
+/// assert_eq!(chain_bytes_within(&steps[0][1..], 9e-4), Err(Refusal::Length));
+/// ```
+pub fn chain_bytes_within(blocks: &[u8], tolerance: f64) -> Result<Element, Refusal> {
+    answer(|out| entries::chain_within(blocks, tolerance, out))
 }
 
 /// What a call of an entry answers, given the output that it may fill.

@@ -7,4 +7,4 @@ use Rattle.byte_chain.proofs.earliest.Given as goal
 
 abbrev pub invariant-loop-block : goal.invariant-loop-block
 invariant-loop-block l =
-    (chunks_exact_size l.block-iterator ≡ 88) × (chain_on (Err l.fn.first) (chunks_exact_rest l.fn.blocks) ≡ chain_on (Err l.held) (chunks_exact_rest l.block-iterator))
+    (chunks_exact_size l.block-iterator ≡ 88) × (chain_on l.tolerance (Err l.fn.first) (chunks_exact_rest l.fn.blocks) ≡ chain_on l.tolerance (Err l.held) (chunks_exact_rest l.block-iterator))

@@ -10,5 +10,5 @@ use Rattle.checks.proofs.passes_without_root.Goals as goal
 pub returns : goal.returns
 unfolding of_bits fits count negative one
 returns c e =
-    passes-without-root _ _ _ _ c.args.squared c.args.tolerance (subst T (sym c.well_formed.0.1) tt) (subst T (sym c.well_formed.1.0.1) tt) e
-    (record { below = tt; above = tt; least = tt; most = tt; near-below = tt; near-above = tt; tolerant = tt })
+    passes-without-root _ _ c.args.squared c.args.tolerance (subst T (sym c.well_formed.0.1) tt) (subst T (sym c.well_formed.1.0.1) tt) e
+    (record { low = tt; high = tt; least = tt; most = tt })

@@ -11,7 +11,7 @@ loop-block-init c =
     let blocks = c.chunks_exact-block-items.ensures in
     let same = c.into_iter-block-iterator.ensures.into_iter_gives in (
       ap chunks_exact_size same ∙ blocks.size,
-      rw (same, blocks.rest, c.identity.ensures),
+      rw (same, blocks.rest, c.starts-held.ensures),
     )
 
 pub loop-block-preserved : goal.loop-block-preserved
@@ -20,12 +20,12 @@ loop-block-preserved c =
     let step = c.in-Some.ensures.steps in (
       step.0 ∙ l.invariant.0,
       l.invariant.1
-          ∙ next l.held _ _ _ step.1.0 (step.1.1 ∙ l.invariant.0)
-          ∙ rw (c.compose_answers-held.ensures, answers, c.check_element.ensures, c.tolerance.ensures),
+          ∙ next c.args.tolerance l.held _ _ _ step.1.0 (step.1.1 ∙ l.invariant.0)
+          ∙ rw (c.compose_answers-held.ensures, answers, c.check_element.ensures),
     )
 
 pub returns : goal.returns
 returns c =
     let l = c.loop-block in
     let step = c.in-None.ensures.steps in
-    sym (l.invariant.1 ∙ end l.held _ (omega (arith, step.1.0, l.invariant.0)))
+    sym (l.invariant.1 ∙ end c.args.tolerance l.held _ (omega (arith, step.1.0, l.invariant.0)))

@@ -7,4 +7,4 @@ use Rattle.sgal3_composition.proofs.chain_blocks.Given as goal
 
 abbrev pub invariant-loop-block : goal.invariant-loop-block
 invariant-loop-block l =
-    (chunks_exact_size l.block-iterator ≡ 11) × (Calls.chain_blocks (length l.s / 11) l.s ≡ composed l.held (chunks_exact_rest l.block-iterator))
+    (chunks_exact_size l.block-iterator ≡ 11) × (Calls.chain_blocks l.tolerance (length l.s / 11) l.s ≡ composed l.tolerance l.held (chunks_exact_rest l.block-iterator))

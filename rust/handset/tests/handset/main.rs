@@ -1,8 +1,10 @@
-//! The crate and the C entries under it: worked examples, refusals, what is held, and the story of set 17.
+//! The crate and the C entries under it: worked examples, refusals, tolerances, what is held, and the
+//! story of set 17.
 mod header;
 mod held;
 mod refusals;
 mod search;
+mod tolerance;
 mod worked;
 
 use handset::{Element, ELEMENT_BYTES};

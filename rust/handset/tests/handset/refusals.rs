@@ -8,7 +8,7 @@ use handset::{
 const FILL: u8 = 0xa5;
 
 /// The number that a call with an output of `len` bytes returns, a refusal. The output, and the bytes beside it, stay.
-fn refused(len: usize, call: impl Fn(&mut [u8]) -> u32) -> u32 {
+pub fn refused(len: usize, call: impl Fn(&mut [u8]) -> u32) -> u32 {
     let mut buffer = vec![FILL; len + 16];
     let number = call(&mut buffer[8..8 + len]);
     assert_ne!(number, 0);
@@ -204,7 +204,7 @@ fn overflow() {
     assert_eq!(chain(&[late, early, late]), Ok(late));
 }
 
-/// A smaller number comes first, wherever its block stands.
+/// 1 comes before 2, 2 before 3 and 3 before 5, wherever their blocks stand.
 #[test]
 fn order() {
     let nan = with(10, 0x7ff8_0000_0000_0000);
@@ -272,6 +272,7 @@ fn names() {
     assert_eq!(Held::new().step(&double), Err(Refusal::NotUnit));
     assert_eq!(Held::new().step_bytes(&[0]), Err(Refusal::Length));
     assert_eq!(Refusal::NotUnit.number(), 3);
+    assert_eq!(Refusal::Tolerance.number(), 7);
     assert_eq!(
         Refusal::NotUnit.to_string(),
         "refused 3: quaternion not unit"

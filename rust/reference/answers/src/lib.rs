@@ -1,6 +1,9 @@
-//! What docs/src answers to a request. The refusals come first: 1 to 3 by the reading in `requests`, 4 by the tests
+//! What docs/src answers to a request. The refusals come first: 1, 2, 7 and 3 by the reading in `requests`, 4 by the tests
 //! that docs/src's functions make, at the numbers that docs/src computes. Then docs/src's own function of the call's
 //! name gives the values, and 5 looks at these.
+//!
+//! docs/src knows the tolerance 1e-6 only. No operation depends on it, so at another one the values are still docs/src's,
+//! and only its own checks may say otherwise.
 //!
 //! Values are handed over as bits. A NaN can come in, where only its being none is asked, and never gets out: a
 //! result that holds one is refused with 5. from_param_slice alone hands a NaN back, always with the same bits. So
@@ -32,7 +35,8 @@ pub fn answer(request: &Request, outcome: &mut Outcome) {
     }
 }
 
-/// Where docs/src checks blocks itself it has to say the same as the reading in `requests`.
+/// Where docs/src checks blocks itself it has to say the same as the reading in `requests`: at 1e-6 in all, and at other
+/// tolerances in 1 and 2, which come before them.
 fn compare_checks(call: &Call, request: &Request, expected: Option<Refusal>) {
     let first = || -> Vec<f64> { request.first.iter().map(|b| f64::from_bits(*b)).collect() };
     let found = match call.name {
@@ -56,8 +60,15 @@ fn compare_checks(call: &Call, request: &Request, expected: Option<Refusal>) {
         ElementError::NonUnitQuaternion { norm } => Refusal::NotUnit { norm },
         error => panic!("{error}"),
     });
-    assert_eq!(
-        found, expected,
-        "docs/src and the reading of the refusals differ at {request:?}"
-    );
+    let before_tolerance =
+        |refusal| matches!(refusal, Some(Refusal::Length { .. } | Refusal::NotFinite));
+    if request.extra == refusals::TOLERANCE.to_bits()
+        || before_tolerance(found)
+        || before_tolerance(expected)
+    {
+        assert_eq!(
+            found, expected,
+            "docs/src and the reading of the refusals differ at {request:?}"
+        );
+    }
 }

@@ -12,7 +12,7 @@ use requests::calls::{Block, Of, Turn};
 use requests::refusals::{self, Refusal};
 use requests::{Call, Request};
 
-/// Refusal 4 of a request that 1 to 3 don't refuse.
+/// Refusal 4 of a request that 1, 2, 7 and 3 don't refuse.
 pub fn refusal(call: &Call, request: &Request) -> Option<Refusal> {
     let (of, angle) = match call.turn {
         Turn::Untested => return None,

@@ -1,7 +1,7 @@
 //! The reference says what the scope's bench list says, and what the orders of operations give.
 
 use answers::answer;
-use requests::bench_list::{accepted, limits, lines, orders, refused, request};
+use requests::bench_list::{accepted, limits, lines, orders, refused, request, tolerances, within};
 use requests::{Outcome, Refusal, Request};
 
 fn asked(request: &Request) -> Outcome {
@@ -34,6 +34,59 @@ fn turns_at_the_limit() {
     }
 }
 
+/// 7 carries nothing, and a matrix is all +0.
+#[test]
+fn tolerances_at_the_ends() {
+    for limit in tolerances() {
+        let outcome = asked(&limit.request);
+        assert_eq!(outcome.number, limit.number, "{}", limit.says);
+        if limit.number == 7 {
+            assert_eq!(outcome, refused(Refusal::Tolerance), "{}", limit.says);
+        }
+    }
+    let mut adjoint = refused(Refusal::Tolerance);
+    adjoint.values = vec![0; 9];
+    let one = [1.0, 0.0, 0.0, 0.0];
+    let asked_adjoint = within(0.0, request("so3_adjoint", &one, &[]));
+    assert_eq!(asked(&asked_adjoint), adjoint);
+}
+
+/// The values don't depend on the tolerance: a quaternion further off is normalised as any other.
+#[test]
+fn answers_at_another_tolerance() {
+    let tolerance = 1.0 / 1024.0;
+    for norm in [1.0 + tolerance, 1.0 - tolerance] {
+        let q = [0.0, norm, 0.0, 0.0];
+        for (name, values) in [
+            ("so3_try_from_quaternion_wxyz", [0.0, 1.0, 0.0, 0.0]),
+            ("so3_inverse", [0.0, -1.0, -0.0, -0.0]),
+        ] {
+            let asked_at = |tolerance| asked(&within(tolerance, request(name, &q, &[])));
+            assert_eq!(asked_at(tolerance), accepted(&values));
+            assert_eq!(asked_at(1e-6), refused(Refusal::NotUnit { norm }));
+        }
+    }
+}
+
+/// A partial element is no block; handed in it is one.
+#[test]
+fn partial_elements() {
+    let tolerance = 2f64.powi(-60);
+    let block = |[w, x, y, z]: [f64; 4]| [0.0, 0.0, 0.0, w, x, y, z, 0.0, 0.0, 0.0, 0.0];
+    let pair = [[0.6, 0.0, 0.8, 0.0], [0.8, 0.6, 0.0, 0.0]].map(block);
+    let blocks = pair.concat().repeat(20);
+    let chain = |count| request("sgal3_chain", &blocks[..11 * count], &[]);
+    let mut refused = 0;
+    for count in 0..40 {
+        let partial = asked(&within(tolerance, chain(count)));
+        let partial: Vec<f64> = partial.values.iter().map(|b| f64::from_bits(*b)).collect();
+        let compose = request("sgal3_compose", &partial, &pair[count % 2]);
+        assert_eq!(asked(&compose), asked(&within(tolerance, chain(count + 1))));
+        refused += u32::from(asked(&within(tolerance, compose)).number == 3);
+    }
+    assert!(refused > 0);
+}
+
 /// Each number is tried over all blocks before the next, and a matrix is all +0 on a refusal.
 #[test]
 fn order_of_the_refusals() {
@@ -41,7 +94,7 @@ fn order_of_the_refusals() {
     let two = [2.0, 0.0, 0.0, 0.0];
     let four = [4.0, 0.0, 0.0, 0.0];
     let nan = [1.0, 0.0, f64::NAN, 0.0];
-    let compose = |first: &[f64], second: &[f64]| asked(&request("so3_compose", first, second, 0));
+    let compose = |first: &[f64], second: &[f64]| asked(&request("so3_compose", first, second));
     let length = |actual| {
         let expected = 4;
         refused(Refusal::Length { expected, actual })
@@ -63,14 +116,14 @@ fn order_of_the_refusals() {
     );
     let mut plus = refused(Refusal::NotUnit { norm: 2.0 });
     plus.values = vec![0; 9];
-    let asked_plus = request("so3_plus_jacobian_self", &two, &[1.0; 3], 0);
+    let asked_plus = request("so3_plus_jacobian_self", &two, &[1.0; 3]);
     assert_eq!(asked(&asked_plus), plus);
 }
 
 #[test]
 fn chains() {
     let identity = [0.0, 0.0, 0.0, 1.0, 0.0, 0.0, 0.0, 0.0, 0.0, 0.0, 0.0];
-    let chain = |values: &[f64]| asked(&request("sgal3_chain", values, &[], 0));
+    let chain = |values: &[f64]| asked(&request("sgal3_chain", values, &[]));
     assert_eq!(chain(&identity.repeat(744)), accepted(&identity));
     let (expected, actual) = (22, 25);
     let not_whole = refused(Refusal::Length { expected, actual });

@@ -2,6 +2,7 @@
 //! a request and an outcome in words.
 
 use requests::generators::Generator;
+use requests::refusals::NUMBERS;
 use requests::{CALLS, Call, Outcome, Request};
 use std::fmt::Write;
 
@@ -29,28 +30,28 @@ impl Drawn {
     }
 }
 
-/// For every call, how many requests had each outcome from 0 to 5.
+/// For every call, how many requests had each outcome, in the order of [`NUMBERS`].
 pub struct Counts {
-    by_number: Vec<[u64; 6]>,
+    by_number: Vec<[u64; NUMBERS.len()]>,
 }
 
 impl Default for Counts {
     fn default() -> Self {
         let most = CALLS.iter().map(|call| call.number).max().unwrap_or(0);
         Counts {
-            by_number: vec![[0; 6]; most as usize + 1],
+            by_number: vec![[0; NUMBERS.len()]; most as usize + 1],
         }
     }
 }
 
 impl Counts {
     pub fn add(&mut self, call: u64, outcome: u64) {
-        self.by_number[call as usize][outcome as usize] += 1;
+        self.by_number[call as usize][place(outcome)] += 1;
     }
 
     /// How many requests of this call had this outcome.
     pub fn count(&self, call: &Call, outcome: u64) -> u64 {
-        self.by_number[call.number as usize][outcome as usize]
+        self.by_number[call.number as usize][place(outcome)]
     }
 
     pub fn total(&self) -> u64 {
@@ -60,20 +61,25 @@ impl Counts {
     /// A line for each call, and the sum of all. A dash stands where a call can't have the outcome.
     pub fn table(&self) -> String {
         let mut text = String::new();
-        let mut line = |name: &str, cells: [String; 7]| {
+        let mut line = |name: &str, cells: [String; NUMBERS.len() + 1]| {
             write!(text, "{name:<36}").unwrap();
             for cell in cells {
                 write!(text, "{cell:>12}").unwrap();
             }
             text.push('\n');
         };
-        let heads = ["requests", "0", "1", "2", "3", "4", "5"];
-        line("call", heads.map(String::from));
+        line(
+            "call",
+            std::array::from_fn(|place| match place {
+                0 => "requests".into(),
+                _ => NUMBERS[place - 1].to_string(),
+            }),
+        );
         for call in CALLS {
             let counts = self.by_number[call.number as usize];
             let cell = |place: usize| match place {
                 0 => counts.iter().sum::<u64>().to_string(),
-                _ if counts[place - 1] == 0 && !call.can_have(place as u64 - 1) => "-".into(),
+                _ if counts[place - 1] == 0 && !call.can_have(NUMBERS[place - 1]) => "-".into(),
                 _ => counts[place - 1].to_string(),
             };
             let name = format!("{:>3} {}", call.number, call.name);
@@ -94,7 +100,7 @@ impl Counts {
     pub fn unexpected(&self) -> Vec<String> {
         let mut found = Vec::new();
         for call in CALLS {
-            for number in 0..6 {
+            for number in NUMBERS {
                 let met = self.count(call, number) > 0;
                 if met != call.can_have(number) {
                     let words = if met { "met" } else { "not met" };
@@ -104,6 +110,11 @@ impl Counts {
         }
         found
     }
+}
+
+fn place(outcome: u64) -> usize {
+    let place = NUMBERS.iter().position(|number| *number == outcome);
+    place.expect("an outcome has a number of the list")
 }
 
 /// A request in full: every value as bits and as a decimal.

@@ -1,18 +1,49 @@
 //! Random requests meet every outcome that a call can have, and no other; both written forms are read back as they were.
 
 use compare::{Counts, Drawn};
-use requests::{Outcome, Request};
+use requests::refusals::TOLERANCE;
+use requests::{CALLS, Call, Outcome, Request};
+use std::collections::BTreeSet;
 use std::process::{Command, Stdio};
 
 #[test]
 fn every_outcome_of_every_call() {
     let mut drawn = Drawn::new(1);
     let mut counts = Counts::default();
-    for _ in 0..400_000 {
+    for _ in 0..1_000_000 {
         drawn.draw();
         counts.add(drawn.request.number, drawn.outcome.number);
     }
     assert_eq!(counts.unexpected(), Vec::<String>::new());
+}
+
+/// Every call that takes a tolerance is accepted with norms that 1e-6 refuses, and refused with norms that it accepts.
+#[test]
+fn other_tolerances() {
+    let mut drawn = Drawn::new(3);
+    let mut outcome = Outcome::default();
+    let (mut wider, mut narrower) = (BTreeSet::new(), BTreeSet::new());
+    for _ in 0..100_000 {
+        drawn.draw();
+        let here = drawn.outcome.number;
+        let mut request = drawn.request.clone();
+        if request.call().checks_norms() && [0, 3].contains(&here) {
+            request.extra = TOLERANCE.to_bits();
+            answers::answer(&request, &mut outcome);
+            match (here, outcome.number) {
+                (0, 3) => drop(wider.insert(request.number)),
+                (3, 0) => drop(narrower.insert(request.number)),
+                _ => {}
+            }
+        }
+    }
+    let calls: BTreeSet<u64> = CALLS
+        .iter()
+        .filter(|call| Call::checks_norms(call))
+        .map(|call| call.number)
+        .collect();
+    assert_eq!(wider, calls);
+    assert_eq!(narrower, calls);
 }
 
 #[test]

@@ -1,9 +1,9 @@
 //! entries [--seed N] [--count N]
 //!
-//! Calls sgal3_compose, also in place, sgal3_inverse and sgal3_chain of the static library with random byte blocks and compares
-//! each number and all 88 bytes of the output with the reference's; after a refusal the output has to be as it was, and the
-//! inputs always. Every buffer is an allocation of its own of just the length that the call is told, so that under
-//! valgrind no byte beside it can be touched unseen.
+//! Calls sgal3_compose, also in place, sgal3_inverse and sgal3_chain of the static library, and the same with a tolerance of the
+//! caller's, on random byte blocks. Each number and all 88 bytes of the output have to be the reference's; after a refusal the
+//! output has to be as it was, and the inputs always. Every buffer is an allocation of its own of just the length that the call
+//! is told, so that under valgrind no byte beside it can be touched unseen.
 //! Exit status: 0, no difference; 1, a difference, or an outcome that was never met; 2, a wrong command.
 
 use compare::{describe_outcome, describe_request};
@@ -11,20 +11,27 @@ use handset::{ELEMENT_BYTES, entries};
 use requests::calls::call;
 use requests::generators::Generator;
 use requests::random::Random;
-use requests::refusals::{LONGEST_CHAIN, Refusal};
+use requests::refusals::{LONGEST_CHAIN, NUMBERS, Refusal, TOLERANCE};
 use requests::{Call, Outcome, Request};
 use std::process::ExitCode;
 
 const COMPOSE: u64 = 70;
 const INVERSE: u64 = 71;
 const CHAIN: u64 = 72;
-const CALLS: [u64; 3] = [COMPOSE, INVERSE, CHAIN];
-/// The outcomes that an entry can have: none tests a turn.
-const OUTCOMES: [usize; 5] = [0, 1, 2, 3, 5];
+/// The entries: the call, and whether it takes a tolerance.
+const ENTRIES: [(u64, bool); 6] = [
+    (COMPOSE, false),
+    (INVERSE, false),
+    (CHAIN, false),
+    (COMPOSE, true),
+    (INVERSE, true),
+    (CHAIN, true),
+];
 
-/// A call of an entry: the bytes of the blocks, and what the output holds before.
+/// A call of an entry: the tolerance, if it takes one, the bytes of the blocks, and what the output holds before.
 struct Entry {
     number: u64,
+    tolerance: Option<f64>,
     first: Box<[u8]>,
     second: Box<[u8]>,
     out: Box<[u8]>,
@@ -47,14 +54,18 @@ fn main() -> ExitCode {
             }
         }
     }
-    let mut counts = [[0u64; 6]; CALLS.len()];
+    let mut counts = [[0u64; 8]; ENTRIES.len()];
     let mut generator = Generator::new(seed);
     let mut random = Random(!seed);
     let (mut request, mut outcome) = (Request::default(), Outcome::default());
     for done in 0..count {
-        let place = random.below(CALLS.len());
-        draw(&mut generator, &mut random, CALLS[place], &mut request);
-        let entry = entry(&mut random, &request);
+        let place = random.below(ENTRIES.len());
+        let (number, within) = ENTRIES[place];
+        draw(&mut generator, &mut random, number, &mut request);
+        if !within {
+            request.extra = TOLERANCE.to_bits();
+        }
+        let entry = entry(&mut random, &request, within);
         expect(&entry, &mut request, &mut outcome);
         if outcome.number == 0 {
             generator.learn(request.call(), &outcome);
@@ -62,7 +73,8 @@ fn main() -> ExitCode {
         if let Err(difference) = compare(&entry, &outcome) {
             println!("a difference after {done} calls that are the same: {difference}");
             println!(
-                "bytes {} and {}, output {}",
+                "{}: bytes {} and {}, output {}",
+                name(ENTRIES[place]),
                 entry.first.len(),
                 entry.second.len(),
                 entry.out.len()
@@ -78,15 +90,18 @@ fn main() -> ExitCode {
         counts[place][outcome.number as usize] += 1;
     }
     let mut missing = false;
-    for (number, counts) in CALLS.iter().zip(counts) {
-        let name = call_of(*number).name;
-        println!(
-            "{name}: {}",
-            OUTCOMES
-                .map(|outcome| format!("outcome {outcome}: {}", counts[outcome]))
-                .join(", ")
-        );
-        missing |= OUTCOMES.iter().any(|outcome| counts[*outcome] == 0);
+    for (entry, counts) in ENTRIES.into_iter().zip(counts) {
+        let can_have = NUMBERS
+            .into_iter()
+            .filter(|number| can_have(entry, *number));
+        let met: Vec<String> = can_have
+            .map(|number| {
+                let count = counts[number as usize];
+                missing |= count == 0;
+                format!("outcome {number}: {count}")
+            })
+            .collect();
+        println!("{}: {}", name(entry), met.join(", "));
     }
     println!("seed {seed}: {count} calls of the entries, no difference");
     if missing {
@@ -100,6 +115,16 @@ fn call_of(number: u64) -> &'static Call {
     call(number).expect("the list has it")
 }
 
+fn name((number, within): (u64, bool)) -> String {
+    let ending = if within { "_within" } else { "" };
+    format!("{}{ending}", call_of(number).name)
+}
+
+/// Whether an entry can have this outcome: without a tolerance, all of its call's but 7.
+fn can_have((number, within): (u64, bool), outcome: u64) -> bool {
+    call_of(number).can_have(outcome) && (within || outcome != 7)
+}
+
 /// Blocks of values; a chain is now and then made as long as it may be, or one block longer.
 fn draw(generator: &mut Generator, random: &mut Random, number: u64, request: &mut Request) {
     generator.draw_for(call_of(number), request);
@@ -111,7 +136,7 @@ fn draw(generator: &mut Generator, random: &mut Random, number: u64, request: &m
 }
 
 /// The request's blocks as bytes; now and then some bytes more or fewer, or an output of another length.
-fn entry(random: &mut Random, request: &Request) -> Entry {
+fn entry(random: &mut Random, request: &Request, within: bool) -> Entry {
     let mut bytes = |values: &[u64], present: bool| {
         let mut bytes: Vec<u8> = values.iter().flat_map(|bits| bits.to_le_bytes()).collect();
         match random.below(64) {
@@ -130,6 +155,7 @@ fn entry(random: &mut Random, request: &Request) -> Entry {
     };
     Entry {
         number: request.number,
+        tolerance: within.then_some(f64::from_bits(request.extra)),
         first,
         second,
         out: (0..length).map(|_| random.word() as u8).collect(),
@@ -167,10 +193,13 @@ fn expect(entry: &Entry, request: &mut Request, outcome: &mut Outcome) {
 fn compare(entry: &Entry, expected: &Outcome) -> Result<(), String> {
     let (first, second) = (entry.first.clone(), entry.second.clone());
     let mut out = entry.out.clone();
-    let number = match entry.number {
-        COMPOSE => entries::compose(&first, &second, &mut out),
-        INVERSE => entries::inverse(&first, &mut out),
-        _ => entries::chain(&first, &mut out),
+    let number = match (entry.number, entry.tolerance) {
+        (COMPOSE, None) => entries::compose(&first, &second, &mut out),
+        (INVERSE, None) => entries::inverse(&first, &mut out),
+        (_, None) => entries::chain(&first, &mut out),
+        (COMPOSE, Some(t)) => entries::compose_within(&first, &second, t, &mut out),
+        (INVERSE, Some(t)) => entries::inverse_within(&first, t, &mut out),
+        (_, Some(t)) => entries::chain_within(&first, t, &mut out),
     };
     if u64::from(number) != expected.number {
         return Err(format!("the entry answers {number}"));
@@ -181,7 +210,10 @@ fn compare(entry: &Entry, expected: &Outcome) -> Result<(), String> {
     // in place the same, where the output has its length
     if entry.number == COMPOSE && out.len() == ELEMENT_BYTES {
         let mut held = first;
-        let in_place = entries::compose_in_place(&mut held, &second);
+        let in_place = match entry.tolerance {
+            None => entries::compose_in_place(&mut held, &second),
+            Some(t) => entries::compose_in_place_within(&mut held, &second, t),
+        };
         let left = if number == 0 { &out } else { &entry.first };
         if in_place != number || held != *left || second != entry.second {
             return Err(format!(

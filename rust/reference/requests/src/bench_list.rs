@@ -1,11 +1,13 @@
 //! The scope's bench list, as requests with the outcomes that it states, written out by hand. Of its lines only the
 //! text that the program `chain` prints can't be asked here.
 //!
-//! Beside it: inputs at which another order of operations shows, and turns at the limit.
+//! Beside it: inputs at which another order of operations shows, turns at the limit, and tolerances at the ends of their
+//! range.
 
 use crate::Refusal;
 use crate::calls::CALLS;
 use crate::format::{Outcome, Request};
+use crate::refusals::{MOST_TOLERANCE, TOLERANCE};
 
 /// A line of the list.
 pub struct Line {
@@ -19,14 +21,24 @@ const B: [f64; 11] = [1.0, 1.0, 1.0, 1.0, 0.0, 0.0, 0.0, 0.0, 2.0, 0.0, 2.0];
 const IDENTITY: [f64; 11] = [0.0, 0.0, 0.0, 1.0, 0.0, 0.0, 0.0, 0.0, 0.0, 0.0, 0.0];
 const A_THEN_B: [f64; 11] = [10.0, 3.0, 4.0, 1.0, 0.0, 0.0, 0.0, 4.0, 2.0, 0.0, 2.5];
 
-/// A request for the call with this name.
-pub fn request(name: &str, first: &[f64], second: &[f64], extra: u64) -> Request {
+/// A request for the call with this name, at 1e-6 where it has a tolerance.
+pub fn request(name: &str, first: &[f64], second: &[f64]) -> Request {
     let call = CALLS.iter().find(|call| call.name == name);
+    let call = call.expect("a name of the list of calls");
+    let extra = if call.has_tolerance() { TOLERANCE } else { 0.0 };
     Request {
-        number: call.expect("a name of the list of calls").number,
-        extra,
+        number: call.number,
+        extra: extra.to_bits(),
         first: bits(first),
         second: bits(second),
+    }
+}
+
+/// The same at another tolerance.
+pub fn within(tolerance: f64, request: Request) -> Request {
+    Request {
+        extra: tolerance.to_bits(),
+        ..request
     }
 }
 
@@ -72,7 +84,7 @@ fn turned(quaternion: [f64; 4]) -> [f64; 11] {
 pub fn lines() -> Vec<Line> {
     let mut list = Vec::new();
     let mut line = |says, name, first: &[f64], second: &[f64], outcome| {
-        let request = request(name, first, second, 0);
+        let request = request(name, first, second);
         list.push(Line {
             says,
             request,
@@ -255,13 +267,13 @@ pub fn lines() -> Vec<Line> {
 
     let two = [2.0, 0.0, 0.0, 0.0];
     for (name, first, tolerance, yes) in [
-        ("sgal3_is_valid", &turned(two)[..], 1e-6f64, true),
+        ("sgal3_is_valid", &turned(two)[..], 1e-6, true),
         ("sgal3_is_valid", &turned(two)[..], 0.0, false),
         ("so3_is_valid", &two[..], 1e-6, false),
     ] {
         list.push(Line {
             says: "is_valid of (2, 0, 0, 0)",
-            request: request(name, first, &[], tolerance.to_bits()),
+            request: within(tolerance, request(name, first, &[])),
             outcome: says(yes),
         });
     }
@@ -285,7 +297,7 @@ pub fn orders() -> Vec<Order> {
     negative_nu[3] = -0.0;
     let mut list = Vec::new();
     let mut order = |says, name, first: &[f64], second: &[f64], place, bits| {
-        let request = request(name, first, second, 0);
+        let request = request(name, first, second);
         list.push(Order {
             says,
             request,
@@ -339,7 +351,7 @@ pub fn orders() -> Vec<Order> {
     list
 }
 
-/// A turn at the limit, with the number of its outcome.
+/// A turn at the limit, or a tolerance, with the number of its outcome.
 pub struct Limit {
     pub says: &'static str,
     pub request: Request,
@@ -350,7 +362,7 @@ pub struct Limit {
 pub fn limits() -> Vec<Limit> {
     let mut list = Vec::new();
     let mut limit = |says, name, first: &[u64], number| {
-        let mut request = request(name, &[], &[], 0);
+        let mut request = request(name, &[], &[]);
         request.first = first.to_vec();
         list.push(Limit {
             says,
@@ -393,5 +405,73 @@ pub fn limits() -> Vec<Limit> {
     let mut element = bits(&IDENTITY);
     element[3..7].copy_from_slice(&angle);
     limit(says, "sgal3_log", &element, 4);
+    list
+}
+
+/// Tolerances at the ends of the range and outside it, norms at the tolerance, and the place of 7 among the numbers.
+#[rustfmt::skip]
+pub fn tolerances() -> Vec<Limit> {
+    const LEAST: f64 = 5e-324;
+    const MOST: f64 = MOST_TOLERANCE;
+    let mut list = Vec::new();
+    let mut limit = |says, tolerance, name, first: &[f64], second: &[f64], number| {
+        let request = within(tolerance, request(name, first, second));
+        list.push(Limit { says, request, number });
+    };
+    let further = |value: f64| f64::from_bits(value.to_bits() + 1);
+    let nearer = |value: f64| f64::from_bits(value.to_bits() - 1);
+    let nan = |bits: u64| f64::from_bits(0x7ff0_0000_0000_0000 | bits);
+    let on_axis = |w: f64| [w, 0.0, 0.0, 0.0];
+    let one = on_axis(1.0);
+
+    let says = "permitted";
+    for tolerance in [LEAST, further(LEAST), f64::MIN_POSITIVE, nearer(MOST), MOST] {
+        limit(says, tolerance, "so3_try_from_quaternion_wxyz", &one, &[], 0);
+        limit(says, tolerance, "sgal3_compose", &A, &B, 0);
+        limit(says, tolerance, "sgal3_chain", &[], &[], 0);
+    }
+    let says = "not permitted";
+    for tolerance in [
+        0.0, -0.0, -LEAST, -TOLERANCE, -MOST, further(MOST), 1e-3, f64::MAX, f64::INFINITY, f64::NEG_INFINITY,
+        nan(1), nan(1 << 51), nan(1 << 51 | 0x1234), nan(1 << 63 | 1 << 51 | 1),
+    ] {
+        limit(says, tolerance, "validate_so3_params", &one, &[], 7);
+        limit(says, tolerance, "validate_sgal3_params", &A, &[], 7);
+        limit(says, tolerance, "so3_try_from_quaternion_wxyz", &one, &[], 7);
+        limit(says, tolerance, "sgal3_compose", &A, &B, 7);
+        limit(says, tolerance, "sgal3_inverse", &A, &[], 7);
+        limit(says, tolerance, "sgal3_chain", &[A, B].concat(), &[], 7);
+        limit(says, tolerance, "sgal3_chain", &[], &[], 7);
+        limit("is_valid takes any", tolerance, "so3_is_valid", &one, &[], 0);
+    }
+
+    let says = "a norm as far from 1 as the tolerance, and one further";
+    for tolerance in [MOST, MOST / 2.0, 2f64.powi(-20), 2f64.powi(-40), 2f64.powi(-41), 2f64.powi(-52)] {
+        let (above, below) = (1.0 + tolerance, 1.0 - tolerance);
+        for (w, number) in [(above, 0), (below, 0), (further(above), 3), (nearer(below), 3)] {
+            limit(says, tolerance, "validate_so3_params", &on_axis(w), &[], number);
+            limit(says, tolerance, "sgal3_chain", &[A, turned(on_axis(w))].concat(), &[], number);
+        }
+    }
+
+    let bad = further(MOST);
+    let with_time = |time| { let mut element = A; element[10] = time; element };
+    let (nan_time, late) = (with_time(f64::NAN), with_time(f64::MAX));
+    let [double, large] = [2.0, 2f64.powi(512)].map(|w| turned(on_axis(w)));
+    limit("1 before 7", bad, "validate_sgal3_params", &A[1..], &[], 1);
+    limit("1 before 7", bad, "sgal3_chain", &[0.0], &[], 1);
+    limit("2 before 7", bad, "sgal3_compose", &double, &nan_time, 2);
+    limit("2 before 7", bad, "sgal3_compose", &A, &large, 2);
+    limit("2 before 7", bad, "sgal3_chain", &[double, large].concat(), &[], 2);
+    limit("2 of a tangent before 7", bad, "so3_plus", &one, &[f64::NAN; 3], 2);
+    limit("7 before 3", bad, "sgal3_compose", &double, &A, 7);
+    limit("7 before 3", bad, "sgal3_chain", &[A, double].concat(), &[], 7);
+    limit("7 before 4", bad, "so3_plus", &one, &[1.0, 0.0, 0.0], 7);
+    limit("7 before 5", bad, "sgal3_compose", &late, &late, 7);
+    limit("7 before 5", bad, "sgal3_chain", &[late, late].concat(), &[], 7);
+
+    // The partial elements have other norms.
+    let tilted = [[0.6, 0.0, 0.8, 0.0], [0.8, 0.6, 0.0, 0.0]].map(turned);
+    limit("blocks of norm 1", 2f64.powi(-60), "sgal3_chain", &tilted.concat().repeat(20), &[], 0);
     list
 }

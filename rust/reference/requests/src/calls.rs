@@ -142,9 +142,7 @@ impl Call {
             0 => true,
             1 => self.first != Block::Absent && !self.has_fixed_length(),
             2 => blocks.iter().any(|b| *b != Block::Absent && b.is_checked()),
-            3 => blocks
-                .iter()
-                .any(|b| b.is_checked() && b.quaternion().is_some()),
+            3 | 7 => self.checks_norms(),
             4 => self.turn != Turn::Untested,
             5 => self.overflows,
             _ => false,
@@ -156,9 +154,16 @@ impl Call {
         self.number == TRY_FROM_QUATERNION
     }
 
-    /// Whether the extra word is a tolerance.
+    /// Whether a block is an element or a rotation that is checked, and so held to a tolerance of the caller's.
+    pub fn checks_norms(&self) -> bool {
+        [self.first, self.second]
+            .iter()
+            .any(|b| b.is_checked() && b.quaternion().is_some())
+    }
+
+    /// Whether the extra word is a tolerance. is_valid's is its own: any is taken.
     pub fn has_tolerance(&self) -> bool {
-        self.answer == Answer::YesOrNo
+        self.checks_norms() || self.answer == Answer::YesOrNo
     }
 
     /// Whether the extra word is an index.
@@ -327,5 +332,14 @@ mod tests {
         for (place, call) in CALLS.iter().enumerate() {
             assert!(CALLS[..place].iter().all(|c| c.name != call.name));
         }
+    }
+
+    /// Every call with an element or a rotation, but from_param_slice; and is_valid of both groups.
+    #[test]
+    fn which_calls_have_a_tolerance() {
+        let count = |has: fn(&Call) -> bool| CALLS.iter().filter(|call| has(call)).count();
+        assert_eq!(count(Call::checks_norms), 70);
+        assert_eq!(count(Call::has_tolerance), 72);
+        assert_eq!(count(|call| call.has_tolerance() && call.has_index()), 0);
     }
 }

@@ -1,6 +1,6 @@
-//! Random requests. Each is drawn in three steps: blocks that belong together and would be accepted, or nearly; in a
-//! quarter of the requests damage to a length, a value or a quaternion, up to three times, so that the order of the
-//! refusals shows; and the tolerance or the index. Answers are taken up as later inputs.
+//! Random requests. Each is drawn in three steps: blocks that belong together and would be accepted at a tolerance, or
+//! nearly; in a quarter of the requests damage to a length, a value or a quaternion, up to three times, so that the order
+//! of the refusals shows; and the index, or the tolerance, mostly that one. Answers are taken up as later inputs.
 
 use crate::calls::{Answer, Block, CALLS, Call, Turn};
 use crate::format::{MOST_VALUES, Outcome, Request};
@@ -15,6 +15,8 @@ const LARGEST_ON_AXIS: u64 = 0x3ee4_f8b5_88e3_68f0;
 /// Draws requests from a seed.
 pub struct Generator {
     random: Random,
+    /// The tolerance that the norms of this request are drawn for.
+    tolerance: f64,
     elements: Kept<11>,
     rotations: Kept<4>,
     sgal3_tangents: Kept<10>,
@@ -47,6 +49,7 @@ impl Generator {
     pub fn new(seed: u64) -> Self {
         Generator {
             random: Random(seed),
+            tolerance: refusals::TOLERANCE,
             elements: Kept::new([0.0, 0.0, 0.0, 1.0, 0.0, 0.0, 0.0, 0.0, 0.0, 0.0, 0.0]),
             rotations: Kept::new([1.0, 0.0, 0.0, 0.0]),
             sgal3_tangents: Kept::new([0.0; 10]),
@@ -69,6 +72,10 @@ impl Generator {
         request.extra = 0;
         request.first.clear();
         request.second.clear();
+        self.tolerance = match call.checks_norms() {
+            true => self.permitted(),
+            false => refusals::TOLERANCE,
+        };
         let extreme = self.random.once_in(4);
         let small = call.turn != Turn::Untested && !self.random.once_in(4);
         let near = matches!(call.turn, Turn::Log(_) | Turn::LogAndAngle(_))
@@ -83,8 +90,10 @@ impl Generator {
                 self.damage(call, request);
             }
         }
-        if call.has_tolerance() {
-            request.extra = self.tolerance(call, request);
+        if call.checks_norms() {
+            request.extra = self.chosen_tolerance(call, request);
+        } else if call.has_tolerance() {
+            request.extra = self.any_tolerance(call, request);
         }
         if call.has_index() {
             request.extra = self.index();
@@ -135,7 +144,7 @@ impl Generator {
                     let start = to.len();
                     self.element(false, extreme && at == place, to);
                     // With many quaternions at the tolerance no long chain would be accepted.
-                    while clean && !is_unit(&to[start..]) {
+                    while clean && !is_unit(&to[start..], self.tolerance) {
                         to.truncate(start);
                         self.element(false, extreme && at == place, to);
                     }
@@ -265,22 +274,23 @@ impl Generator {
         if small {
             return self.small_rotation();
         }
+        let tolerance = self.tolerance;
         let r = &mut self.random;
         let mut q = match r.below(16) {
-            0..=4 => unit([(); 4].map(|()| r.signed())),
-            5 => {
-                let scale = 1.0 + r.signed() * refusals::TOLERANCE;
+            0..=3 => unit([(); 4].map(|()| r.signed())),
+            4 | 5 => {
+                let scale = 1.0 + r.signed() * tolerance;
                 unit([(); 4].map(|()| r.signed())).map(|value| value * scale)
             }
             6 => {
-                let scale = 1.0 + r.sign(refusals::TOLERANCE);
+                let scale = 1.0 + r.sign(tolerance);
                 let mut q = unit([(); 4].map(|()| r.signed())).map(|value| value * scale);
                 let place = r.below(4);
                 q[place] = nudge(q[place], r.below(17) as i64 - 8);
                 q
             }
             7 => {
-                let near = 1.0 + r.sign(refusals::TOLERANCE);
+                let near = 1.0 + r.sign(tolerance);
                 let near = nudge(near, r.below(7) as i64 - 3);
                 r.on_axis(near)
             }
@@ -332,6 +342,7 @@ impl Generator {
     /// A quaternion whose half angle, or whose angle, is at the limit, or within it.
     fn small_rotation(&mut self) -> [f64; 4] {
         let direction = self.direction();
+        let tolerance = self.tolerance;
         let r = &mut self.random;
         let kind = r.below(8);
         let half = match kind {
@@ -347,7 +358,7 @@ impl Generator {
         let scale = match r.below(8) {
             0..=2 => 1.0,
             3 | 4 => 1.0 / w,
-            _ => 1.0 + r.signed() * refusals::TOLERANCE,
+            _ => 1.0 + r.signed() * tolerance,
         };
         let mut q = [w, x, y, z].map(|value| value * scale);
         if r.once_in(4) {
@@ -431,13 +442,15 @@ impl Generator {
                     3 => r.on_axis(2f64.powi(512)),
                     4 => [(); 4].map(|()| r.tiny()),
                     _ => {
-                        let scale = match r.below(6) {
+                        let scale = match r.below(8) {
                             0 => 2.0,
                             1 => 0.5,
                             2 => 1.0 + 2f64.powi(-19),
                             3 => 1.0 - 3e-6,
                             4 => r.ordinary(),
-                            _ => 1.0 + r.signed() * 1e-5,
+                            5 => 1.0 + r.signed() * 1e-5,
+                            6 => 1.0 + r.signed() * 1.1 * refusals::MOST_TOLERANCE,
+                            _ => 1.0 + r.signed() * 10.0 * self.tolerance,
                         };
                         q.map(|value| value * scale)
                     }
@@ -447,7 +460,54 @@ impl Generator {
         }
     }
 
-    fn tolerance(&mut self, call: &Call, request: &Request) -> u64 {
+    /// A tolerance that a caller may choose: 1e-6 most often, or any size, the largest and the smallest among them.
+    fn permitted(&mut self) -> f64 {
+        let r = &mut self.random;
+        match r.below(16) {
+            0..=7 => refusals::TOLERANCE,
+            8 => nudge(refusals::MOST_TOLERANCE, -(r.below(3) as i64)),
+            9 => r.pick(&[5e-4, 1e-4, 1e-5]),
+            10 | 11 => r.with_exponent(-20, -11).abs(),
+            // from 2^-40 on a check of a norm can do without the root
+            12 => nudge(2f64.powi(-40), r.below(5) as i64 - 2),
+            13 => r.with_exponent(-54, -20).abs(),
+            14 => r.tiny().abs(),
+            _ => nudge(0.0, 1 + r.below(3) as i64),
+        }
+    }
+
+    /// The tolerance of a call that checks norms: mostly the one that they were drawn for.
+    fn chosen_tolerance(&mut self, call: &Call, request: &Request) -> u64 {
+        let r = &mut self.random;
+        let tolerance = match r.below(16) {
+            0 | 1 => {
+                let second = call.second.quaternion().is_some() && r.once_in(2);
+                let (block, values) = match second {
+                    true => (call.second, &request.second),
+                    false => (call.first, &request.first),
+                };
+                let at = block.length() * r.below((values.len() / block.length()).max(1));
+                r.about_distance(block, &values[at..])
+            }
+            // one that isn't permitted
+            2 => match r.below(10) {
+                0 | 1 => r.zero(),
+                2 => return r.not_finite(),
+                3 => return r.word(),
+                4 => -self.tolerance,
+                5 => -r.tiny().abs(),
+                6 => r.ordinary(),
+                7 => r.huge(),
+                _ => nudge(refusals::MOST_TOLERANCE, 1 + r.below(3) as i64),
+            },
+            3 => self.permitted(),
+            _ => self.tolerance,
+        };
+        tolerance.to_bits()
+    }
+
+    /// The tolerance of is_valid, which takes any.
+    fn any_tolerance(&mut self, call: &Call, request: &Request) -> u64 {
         let r = &mut self.random;
         let tolerance = match r.below(16) {
             0..=4 => 1e-6,
@@ -459,21 +519,7 @@ impl Generator {
             10 => r.tiny(),
             11 => f64::EPSILON * r.pick(&[0.25, 0.5, 1.0, 1.5, 2.0]),
             12 => r.huge(),
-            // how far this norm is from 1, and its neighbours
-            _ => {
-                let at = call
-                    .first
-                    .quaternion()
-                    .unwrap_or(0)
-                    .min(request.first.len());
-                match request.first[at..].first_chunk::<4>() {
-                    Some(q) => {
-                        let distance = (refusals::norm(q.map(f64::from_bits)) - 1.0).abs();
-                        nudge(distance, r.below(3) as i64 - 1)
-                    }
-                    None => 1e-6,
-                }
-            }
+            _ => r.about_distance(call.first, &request.first),
         };
         tolerance.to_bits()
     }
@@ -492,6 +538,18 @@ impl Generator {
 }
 
 impl Random {
+    /// How far the norm of a block's quaternion is from 1, or a neighbour of that.
+    fn about_distance(&mut self, block: Block, values: &[u64]) -> f64 {
+        let at = block.quaternion().unwrap_or(0).min(values.len());
+        match values[at..].first_chunk::<4>() {
+            Some(q) => {
+                let distance = (refusals::norm(q.map(f64::from_bits)) - 1.0).abs();
+                nudge(distance, self.below(3) as i64 - 1)
+            }
+            None => refusals::TOLERANCE,
+        }
+    }
+
     /// Four values of which all but one are zero.
     fn on_axis(&mut self, value: f64) -> [f64; 4] {
         let mut q = [(); 4].map(|()| self.zero());
@@ -505,9 +563,9 @@ fn put<const N: usize>(to: &mut Vec<u64>, values: [f64; N]) {
 }
 
 /// Whether the quaternion of an element is within the tolerance.
-fn is_unit(element: &[u64]) -> bool {
+fn is_unit(element: &[u64], tolerance: f64) -> bool {
     let norm = refusals::norm(std::array::from_fn(|at| f64::from_bits(element[3 + at])));
-    (norm - 1.0).abs() <= refusals::TOLERANCE
+    (norm - 1.0).abs() <= tolerance
 }
 
 /// Each value divided by the norm; the identity where that is not to be had.

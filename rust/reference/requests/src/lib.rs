@@ -2,9 +2,9 @@
 //!
 //! - [`calls`]: the list of calls, with their numbers, their blocks and their answers;
 //! - [`format`]: requests and outcomes, and how they are written as words;
-//! - [`refusals`]: the scope's section 'Answers and their numbers', read once more in plain Rust;
+//! - [`refusals`]: the scope's section 'Answers and their numbers', with the tolerance that a caller chooses, read once more in plain Rust;
 //! - [`generators`]: random requests from a seed;
-//! - [`bench_list`]: the scope's bench list, with its answers written out by hand.
+//! - [`bench_list`]: the scope's bench list, with its answers written out by hand, and inputs beside it.
 
 pub mod bench_list;
 pub mod calls;

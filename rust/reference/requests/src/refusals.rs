@@ -1,18 +1,24 @@
-//! The scope's section 'Answers and their numbers', read once more, in plain f64 arithmetic. It shares nothing with
-//! docs/src and nothing with the proved crates.
+//! The scope's section 'Answers and their numbers', with the tolerance that a caller chooses, read once more, in plain f64 arithmetic. It shares
+//! nothing with docs/src and nothing with the proved crates.
 //!
-//! The numbers are tried in their order, each over all blocks from left to right before the next. 1 to 3 are read from
-//! the blocks alone. For 4 the caller names the squared angles that the call tests, and for 5 the values of the result.
+//! The numbers are tried in the order 1, 2, 7, 3, 4, 5, each over all blocks from left to right before the next. Up to 3
+//! they are read from the blocks and the tolerance alone. For 4 the caller names the squared angles that the call tests,
+//! and for 5 the values of the result.
 
 use crate::calls::{Block, Call};
 use crate::format::Request;
 
 /// The most blocks that a chain has.
 pub const LONGEST_CHAIN: usize = 4096;
-/// How far a quaternion's norm may lie from 1.
+/// How far a quaternion's norm may lie from 1 where the caller doesn't choose.
 pub const TOLERANCE: f64 = 1e-6;
+/// The largest tolerance that a caller may choose.
+pub const MOST_TOLERANCE: f64 = 1.0 / 1024.0;
 /// The largest squared angle of the series branch.
 pub const LIMIT: f64 = 1e-10;
+
+/// The numbers that an outcome can have.
+pub const NUMBERS: [u64; 7] = [0, 1, 2, 3, 4, 5, 7];
 
 /// A refusal with what it carries.
 #[derive(Clone, Copy, Debug, PartialEq)]
@@ -22,6 +28,7 @@ pub enum Refusal {
     NotUnit { norm: f64 },
     Turn,
     Overflow,
+    Tolerance,
 }
 
 impl Refusal {
@@ -32,6 +39,7 @@ impl Refusal {
             Refusal::NotUnit { .. } => 3,
             Refusal::Turn => 4,
             Refusal::Overflow => 5,
+            Refusal::Tolerance => 7,
         }
     }
 
@@ -44,20 +52,22 @@ impl Refusal {
     }
 }
 
-/// The first refusal of 1 to 3, if there is one.
+/// The first refusal of 1, 2, 7 and 3, if there is one.
 pub fn of_blocks(call: &Call, request: &Request) -> Option<Refusal> {
     let blocks = [
         (call.first, &request.first[..]),
         (call.second, &request.second[..]),
     ];
-    let first_of = |number: fn(Block, &[u64]) -> Option<Refusal>| {
+    let first_of = |number: &dyn Fn(Block, &[u64]) -> Option<Refusal>| {
         blocks
             .iter()
             .find_map(|(block, values)| number(*block, values))
     };
-    first_of(length)
-        .or_else(|| first_of(not_finite))
-        .or_else(|| first_of(not_unit))
+    let within = f64::from_bits(request.extra);
+    first_of(&length)
+        .or_else(|| first_of(&not_finite))
+        .or_else(|| tolerance(call, request.extra))
+        .or_else(|| first_of(&|block, values| not_unit(block, values, within)))
 }
 
 /// Refusal 4: one of the squared angles that are tested is above the limit.
@@ -96,12 +106,24 @@ fn not_finite(block: Block, values: &[u64]) -> Option<Refusal> {
     (!finite).then_some(Refusal::NotFinite)
 }
 
-fn not_unit(block: Block, values: &[u64]) -> Option<Refusal> {
+/// Of a call that holds norms to a tolerance, also where a chain has no block.
+fn tolerance(call: &Call, bits: u64) -> Option<Refusal> {
+    let refused = call.checks_norms() && !is_permitted(bits);
+    refused.then_some(Refusal::Tolerance)
+}
+
+/// Whether a caller may choose this tolerance: finite, above 0 and at most 1/1024.
+pub fn is_permitted(bits: u64) -> bool {
+    let tolerance = f64::from_bits(bits);
+    is_finite(bits) && tolerance > 0.0 && tolerance <= MOST_TOLERANCE
+}
+
+fn not_unit(block: Block, values: &[u64], tolerance: f64) -> Option<Refusal> {
     if !block.is_checked() {
         return None;
     }
     norms(block, values)
-        .find(|norm| (norm - 1.0).abs() > TOLERANCE)
+        .find(|norm| (norm - 1.0).abs() > tolerance)
         .map(|norm| Refusal::NotUnit { norm })
 }
 

@@ -1,14 +1,17 @@
 //! sample REQUESTS OUTCOMES
 //!
 //! Writes a fixed sample of requests and the reference's outcomes into two files: the scope's bench list, inputs at
-//! which another order of operations shows, turns at the limit, and random requests such that every call has every
-//! outcome that it can have, several times. It is the same on every run, and fails where an outcome is missing.
+//! which another order of operations shows, turns at the limit, tolerances at the ends of their range, and random requests
+//! such that every call has every outcome that it can have, several times, and is accepted with norms that 1e-6 refuses. It
+//! is the same on every run, and fails where an outcome is missing.
 
 use compare::Counts;
 use requests::calls::{Block, Call};
 use requests::format::MOST_VALUES;
 use requests::generators::Generator;
+use requests::refusals::{NUMBERS, TOLERANCE};
 use requests::{CALLS, Outcome, Request, bench_list};
+use std::collections::BTreeMap;
 use std::fs;
 use std::process::ExitCode;
 
@@ -16,6 +19,8 @@ const SEED: u64 = 1;
 /// How many requests of a call are kept for each outcome.
 const ACCEPTED: u64 = 26;
 const REFUSED: u64 = 6;
+/// And how many at the least that are accepted with norms that 1e-6 refuses.
+const WIDE: u64 = 3;
 /// Draws for one call before it is given up.
 const DRAWS: u32 = 200_000;
 /// Of the random chains of more blocks than this, only a few are kept.
@@ -48,6 +53,7 @@ struct Sample {
     requests: Vec<u8>,
     outcomes: Vec<u8>,
     counts: Counts,
+    wide: BTreeMap<u64, u64>,
     long_chains: u32,
 }
 
@@ -64,8 +70,9 @@ impl Sample {
             answers::answer(&order.request, &mut outcome);
             sample.keep(&order.request, &outcome);
         }
-        for limit in bench_list::limits() {
+        for limit in bench_list::limits().iter().chain(&bench_list::tolerances()) {
             answers::answer(&limit.request, &mut outcome);
+            assert_eq!(outcome.number, limit.number, "{}", limit.says);
             sample.keep(&limit.request, &outcome);
         }
         let mut generator = Generator::new(SEED);
@@ -83,6 +90,7 @@ impl Sample {
                     sample.keep(&request, &outcome);
                 }
             }
+            assert!(sample.has_enough(call), "{}: too few requests", call.name);
         }
         sample
     }
@@ -104,13 +112,16 @@ impl Sample {
     }
 
     fn has_enough(&self, call: &Call) -> bool {
-        (0..6)
-            .filter(|number| call.can_have(*number))
-            .all(|number| self.counts.count(call, number) >= wanted(call, number))
+        let wide = !call.checks_norms() || self.wide.get(&call.number) >= Some(&WIDE);
+        wide && NUMBERS
+            .iter()
+            .filter(|number| call.can_have(**number))
+            .all(|number| self.counts.count(call, *number) >= wanted(call, *number))
     }
 
     fn wants(&mut self, call: &Call, request: &Request, outcome: &Outcome) -> bool {
-        if self.counts.count(call, outcome.number) >= wanted(call, outcome.number) {
+        let wide = self.wide.get(&call.number) < Some(&WIDE) && is_wide(request, outcome);
+        if !wide && self.counts.count(call, outcome.number) >= wanted(call, outcome.number) {
             return false;
         }
         if call.first == Block::Chain && request.first.len() > 11 * LONG {
@@ -124,7 +135,23 @@ impl Sample {
         request.write(&mut self.requests);
         outcome.write(&mut self.outcomes);
         self.counts.add(request.number, outcome.number);
+        *self.wide.entry(request.number).or_default() += u64::from(is_wide(request, outcome));
     }
+}
+
+/// Whether a request is accepted that 1e-6 refuses.
+fn is_wide(request: &Request, outcome: &Outcome) -> bool {
+    if outcome.number != 0 || !request.call().checks_norms() {
+        return false;
+    }
+    let mut at_a_millionth = Outcome::default();
+    let extra = TOLERANCE.to_bits();
+    let request = Request {
+        extra,
+        ..request.clone()
+    };
+    answers::answer(&request, &mut at_a_millionth);
+    at_a_millionth.number == 3
 }
 
 /// How many requests with this outcome are kept: one is enough for a call that is always the same.
