@@ -5,16 +5,18 @@
 # make install      header, archive and pkg-config file, in PREFIX=.., /usr/local unless another is named; TARGET=.. as above
 # make try          the programs with no proof, on the interpreter and compiled with checks; TRIES=.. times on requests drawn at
 #                   random, beside the Rust
-# make compare      every call, the C entries and the square root beside the Rust, on fresh random requests: SEED=..; for the
-#                   calls COUNT=.. or SECONDS=.., the entries get two million, the root one; APEX_SRC=.. names the folder of the
-#                   Rust source, if it is not ../shared
+# make compare      every call, the C entries, the square root and the words of eight bytes beside Rust, on fresh random requests: SEED=..;
+#                   for the calls COUNT=.. or SECONDS=.., the entries get two million, the root one, the words 2^20 and 2^17 of each of
+#                   seven kinds; APEX_SRC=.. names the folder of the Rust source, if it is not ../shared
 # make bench        times: the square root, and the calls beside the Rust source and plain Rust
+# make bench-turns  times: the C entries at 1e-6 beside those of another archive, OLD=.., by turns in one process
 # make vectors      the stored vectors of the square root anew
 # make sample       the stored requests of the program `conformance` and the reference's answers anew
 # make cases        the stored inputs of the programs `chain` and `chain_cases`, and what they have to print, anew
 FILE = examples/two-steps.bin
 export FILE
 PREFIX = /usr/local
+OLD =
 SEED = 1
 COUNT = 10000000
 SECONDS =
@@ -53,8 +55,8 @@ WITH_SOURCE = if ! [ -d "$$APEX_SRC" ]; then $(call WITHOUT,Rust source (APEX_SR
 TWO_AT_A_TIME = $(MAKE) --no-print-directory -j2 --output-sync=target IN_ORDER=
 
 .PHONY: run test test-tools test-sources test-built try try-requests toolchain-check readme-check test-rust test-c test-install install install-files \
-	vectors-check cases-check sample-check test-reference compare compare-sqrt compare-calls compare-entries valgrind-entries conformance bench bench-sqrt \
-	bench-handset sgal3-lib vectors cases sample float-lib
+	vectors-check cases-check sample-check test-reference compare compare-sqrt compare-words compare-calls compare-entries valgrind-words valgrind-entries conformance \
+	bench bench-sqrt bench-handset bench-turns sgal3-lib vectors cases sample float-lib words-lib
 IN_ORDER = yes
 ifdef IN_ORDER
 .NOTPARALLEL:
@@ -78,7 +80,7 @@ test: toolchain-check test-tools
 	$(TWO_AT_A_TIME) test-built COUNT=5000000 PROVED="programs $$libraries" && tail -n 1 target/rt-ci.log
 
 test-sources: readme-check try vectors-check cases-check sample-check test-reference
-test-built: valgrind-entries compare test-rust test-c test-install test-targets
+test-built: valgrind-words valgrind-entries compare test-rust test-c test-install test-targets
 
 # Root installs what the tests want and is missing, in CI or with INSTALL=yes.
 APT = DEBIAN_FRONTEND=noninteractive apt-get install -y --no-install-recommends g++ valgrind pkg-config
@@ -182,10 +184,16 @@ float-lib: toolchain-check
 conformance: toolchain-check
 	@$(if $(filter programs,$(PROVED)),,$(call SHOWN,env -C crates/conformance rt run < /dev/null))
 
-compare: compare-sqrt compare-entries compare-calls
+words-lib: toolchain-check
+	@$(call STATIC_LIBRARY,words_export)
+
+compare: compare-sqrt compare-words compare-entries compare-calls
 
 compare-sqrt: float-lib
 	@$(call WITH_CARGO,$(CARGO) run --release $(FLOAT) --bin sqrt_compare -- --seed $(SEED) --count 1000000)
+
+compare-words: words-lib
+	@$(call WITH_CARGO,$(CARGO) run --release $(FLOAT) --bin words_compare -- --seed $(SEED) --count 1048576)
 
 compare-calls: conformance
 	@$(call WITH_SOURCE,$(CARGO) run $(REFERENCE) --bin compare -- crates/conformance/out/conformance --seed $(SEED) \
@@ -194,7 +202,12 @@ compare-calls: conformance
 compare-entries: lib
 	@$(call WITH_SOURCE,$(CARGO) run $(REFERENCE) --bin entries -- --seed $(SEED) --count 2000000)
 
-# That no byte beside a buffer is touched.
+# That no byte beside a buffer is touched, here and in the next.
+valgrind-words: words-lib
+	@if ! command -v valgrind > /dev/null; then $(call WITHOUT,valgrind); else \
+	    $(call WITH_CARGO,$(CARGO) build --release $(FLOAT) --bin words_compare && \
+	    valgrind --quiet --leak-check=full --error-exitcode=1 target/cargo/release/words_compare --seed $(SEED) --count 5000); fi
+
 valgrind-entries: lib
 	@if ! command -v valgrind > /dev/null; then $(call WITHOUT,valgrind); else \
 	    $(call WITH_SOURCE,$(CARGO) build $(REFERENCE) --bin entries && \
@@ -207,6 +220,14 @@ bench-sqrt: float-lib
 
 bench-handset: lib sgal3-lib
 	@$(CARGO) run --release --target-dir target/cargo --manifest-path rust/bench/Cargo.toml
+
+# Of two archives that are the same there is nothing to time.
+bench-turns: lib
+	@[ -f "$(OLD)" ] || { echo "make bench-turns: OLD=.. names another libhandset.a."; exit 1; }
+	@if cmp -s "$(OLD)" target/lib/libhandset.a; then echo "The archives are the same, byte for byte."; else \
+	    mkdir -p target && objcopy --prefix-symbols=old_ "$(OLD)" target/libold.a && \
+	    gcc -std=gnu99 -O2 $(WARNINGS) -Itarget/lib c/bench_turns.c target/lib/libhandset.a target/libold.a -lm -o target/bench_turns && \
+	    size target/libold.a target/lib/libhandset.a && target/bench_turns; fi
 
 sgal3-lib: toolchain-check
 	@$(call STATIC_LIBRARY,sgal3_export)

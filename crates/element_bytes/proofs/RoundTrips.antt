@@ -1,19 +1,19 @@
 -- The round trips: an element to its 88 bytes and back to its values (`values-back`), and 88 bytes to their element and back (`block_back`). Assumes
 -- nothing.
 use Prim.Native.Nat.{ℕ, zero, suc, ◌+◌, ◌*◌, ◌≤◌, ◌<◌}
-use mathlib.Core.Path.{◌≡◌, refl, sym, ap, ◌∙◌}
+use mathlib.Core.Path.{◌≡◌, refl, ap, ◌∙◌}
 use mathlib.Core.Bool.{true, not, false≢true}
 use mathlib.Core.List.{List, [], ◌∷◌}
 use native.Mathlib.Omega.{arith}
 use lib.Dec.{T}
 use lib.ListN.{length, get_or, take, drop}
-use lib.Seq.{drop-cons, drop-drop, take-add}
+use lib.Seq.{drop-drop, take-add}
 use lib.Ieee.{Float, nan, inf, fin, binary64, fits, is_nan}
 use lib.Ieee.Scale.{finite}
 use Rattle.checks.specs.Checks.{all_finite}
 use Rattle.checks.proofs.Finite.{both}
-use Rattle.words.specs.Word.{joined, word_at, value_at, bytes_of, word_bytes}
-use Rattle.words.proofs.Bytes.{bytes_back, value-back, pattern-back}
+use Rattle.words.specs.Word.{word_at, value_at, bytes_of, word_bytes}
+use Rattle.words.proofs.Bytes.{word_lt, bytes_back, value-back, pattern-back}
 use Rattle.sgal3.specs.Elements.{coeffs, element_of}
 use Rattle.sgal3.specs.declared.Element.{Element}
 use Rattle.element_bytes.specs.Bytes.{values_at, value_bytes, element_bytes}
@@ -43,38 +43,6 @@ time-back e f = at-80 ∙ value-back e.time f
     at-80 = unfold value_at word_at element_bytes value_bytes word_bytes bytes_of coeffs in refl
 
 -- ---- a block's bytes, stored again
-front : (s : List ℕ) (i : ℕ) → i + 8 ≤ length s
-    → take 8 (drop i s)
-    ≡ get_or s i 0 ∷ get_or s (i + 1) 0 ∷ get_or s (i + 2) 0 ∷ get_or s (i + 3) 0 ∷ get_or s (i + 4) 0 ∷ get_or s (i + 5) 0 ∷ get_or s (i + 6) 0 ∷ get_or s (i + 7) 0 ∷ []
-front s i h =
-    let e1 : i + 1 ≡ suc i = omega arith in
-    let e2 : i + 2 ≡ suc (suc i) = omega arith in
-    let e3 : i + 3 ≡ suc (suc (suc i)) = omega arith in
-    let e4 : i + 4 ≡ suc (suc (suc (suc i))) = omega arith in
-    let e5 : i + 5 ≡ suc (suc (suc (suc (suc i)))) = omega arith in
-    let e6 : i + 6 ≡ suc (suc (suc (suc (suc (suc i))))) = omega arith in
-    let e7 : i + 7 ≡ suc (suc (suc (suc (suc (suc (suc i)))))) = omega arith in
-    rw (
-      e1,
-      e2,
-      e3,
-      e4,
-      e5,
-      e6,
-      e7,
-      drop-cons s i 0 (omega arith),
-      drop-cons s (suc i) 0 (omega arith),
-      drop-cons s (suc (suc i)) 0 (omega arith),
-      drop-cons s (suc (suc (suc i))) 0 (omega arith),
-      drop-cons s (suc (suc (suc (suc i)))) 0 (omega arith),
-      drop-cons s (suc (suc (suc (suc (suc i))))) 0 (omega arith),
-      drop-cons s (suc (suc (suc (suc (suc (suc i)))))) 0 (omega arith),
-      drop-cons s (suc (suc (suc (suc (suc (suc (suc i))))))) 0 (omega arith),
-    )
-
-below : (a b c d e f g h : ℕ) → a < 256 → b < 256 → c < 256 → d < 256 → e < 256 → f < 256 → g < 256 → h < 256 → joined a b c d e f g h < 0x1_0000_0000_0000_0000
-below a b c d e f g h A B C D E F G H = omega arith
-
 no_nan : (x : Float) → finite x ≡ true → T (not (is_nan x))
 unfolding is_nan
 no_nan nan h = absurd (false≢true h)
@@ -83,11 +51,9 @@ no_nan (fin s m e) h = tt
 
 module _ (s : List ℕ) (byte : (i : ℕ) → get_or s i 0 < 256) where
   eight-back : (i : ℕ) → i + 8 ≤ length s → finite (value_at s i) ≡ true → bytes (value_at s i) ≡ take 8 (drop i s)
-  unfolding value_at word_at
+  unfolding value_at
   eight-back i h f =
-      ap bytes_of (pattern-back (word_at s i) (below _ _ _ _ _ _ _ _ (byte i) (byte (i + 1)) (byte (i + 2)) (byte (i + 3)) (byte (i + 4)) (byte (i + 5)) (byte (i + 6)) (byte (i + 7))) (no_nan (value_at s i) f))
-      ∙ bytes_back _ _ _ _ _ _ _ _ (byte i) (byte (i + 1)) (byte (i + 2)) (byte (i + 3)) (byte (i + 4)) (byte (i + 5)) (byte (i + 6)) (byte (i + 7))
-      ∙ sym (front s i h)
+      ap bytes_of (pattern-back (word_at s i) (word_lt s byte i h) (no_nan (value_at s i) f)) ∙ bytes_back s byte i h
 
   run-back : (n i : ℕ) → i + n * 8 ≤ length s → all_finite (values_at n s i) ≡ true → value_bytes (values_at n s i) ≡ take (n * 8) (drop i s)
   unfolding values_at all_finite value_bytes word_bytes

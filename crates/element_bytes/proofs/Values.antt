@@ -9,7 +9,8 @@ use lib.Ieee.{Float}
 use lib.Ieee.Scale.{finite}
 use Rattle.std.proofs.lemmas.List.{get_or_append_left, get_or-append_right}
 use Rattle.checks.specs.Checks.{all_finite}
-use Rattle.words.specs.Word.{word_at, value_at}
+use Rattle.words.specs.Word.{value_at}
+use Rattle.words.proofs.Bytes.{word_same}
 use Rattle.manifold.specs.Answers.{vector_at, quaternion_at}
 use Rattle.sgal3.specs.Elements.{coeffs, element_of}
 use Rattle.element_bytes.specs.Bytes.{values_at}
@@ -45,18 +46,10 @@ values-append (suc m) n s i =
     rw (a, b) (ap (λ (l : List Float). value_at s i ∷ l) (values-append m n s (i + 8)))
 
 -- ---- the values of the same bytes at another place
-word-same : (s t : List ℕ) (i j : ℕ) → ((k : ℕ) → k < 8 → get_or s (i + k) 0 ≡ get_or t (j + k) 0) → word_at s i ≡ word_at t j
-unfolding word_at
-word-same s t i j h =
-    let a : i ≡ i + 0 = omega arith in
-    let b : j ≡ j + 0 = omega arith in
-    let first : get_or s i 0 ≡ get_or t j 0 = ap (λ (p : ℕ). get_or s p 0) a ∙ h 0 (omega arith) ∙ ap (λ (p : ℕ). get_or t p 0) (sym b) in
-    rw (first, h 1 (omega arith), h 2 (omega arith), h 3 (omega arith), h 4 (omega arith), h 5 (omega arith), h 6 (omega arith), h 7 (omega arith))
-
 pub values-same : (n : ℕ) (s t : List ℕ) (i j : ℕ) → ((k : ℕ) → k < n * 8 → get_or s (i + k) 0 ≡ get_or t (j + k) 0) → values_at n s i ≡ values_at n t j
 unfolding values_at value_at
 values-same zero s t i j h = refl
-values-same (suc n) s t i j h = rw (word-same s t i j (λ k q. h k (omega arith)), values-same n s t (i + 8) (j + 8) later)
+values-same (suc n) s t i j h = rw (word_same s t i j (λ k q. h k (omega arith)), values-same n s t (i + 8) (j + 8) later)
   where
     later : (k : ℕ) → k < n * 8 → get_or s (i + 8 + k) 0 ≡ get_or t (j + 8 + k) 0
     later k q =

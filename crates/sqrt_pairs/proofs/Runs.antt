@@ -3,20 +3,14 @@ use Rattle.std.proofs.Common.{ℕ, zero, suc, ◌≡◌, ◌+◌, ◌*◌, ◌/�
 use Rattle.std.proofs.Math.ListN.{get_or-append}
 use Rattle.std.proofs.lemmas.List.{get_or-append-add}
 use Rattle.words.specs.Word.{word_at}
+use Rattle.words.proofs.Bytes.{word_same}
 use Rattle.sqrt_pairs.specs.Pairs.{wrong, wrong_pairs}
 
--- words whose bytes are the same
-same-word : (s t : List ℕ) (i j : ℕ) → ((k : ℕ) → k < 8 → get_or s (i + k) 0 ≡ get_or t (j + k) 0) → word_at s i ≡ word_at t j
-unfolding word_at
-same-word s t i j h =
-    let e : get_or s i 0 ≡ get_or t j 0 = rw (add-zero, add-zero) at (h 0 (omega arith)) in
-    rw (e, h 1 (omega arith), h 2 (omega arith), h 3 (omega arith), h 4 (omega arith), h 5 (omega arith), h 6 (omega arith), h 7 (omega arith))
-
 word-before : (a b : List ℕ) (i : ℕ) → i + 8 ≤ length a → word_at (a ++ b) i ≡ word_at a i
-word-before a b i fits = same-word (a ++ b) a i i (λ k l. get_or-append a b 0 (i + k) (omega arith))
+word-before a b i fits = word_same (a ++ b) a i i (λ k l. get_or-append a b 0 (i + k) (omega arith))
 
 word-behind : (a b : List ℕ) (i j : ℕ) → i ≡ length a + j → word_at (a ++ b) i ≡ word_at b j
-word-behind a b i j e = same-word (a ++ b) b i j byte
+word-behind a b i j e = word_same (a ++ b) b i j byte
   where
     byte : (k : ℕ) → k < 8 → get_or (a ++ b) (i + k) 0 ≡ get_or b (j + k) 0
     byte k l =

@@ -1,4 +1,5 @@
-// Eight little-endian bytes as a word, a word as a number, and back: every pattern is read, a NaN's too.
+// Eight little-endian bytes as a word, a word as a number, and back: every pattern is read, a NaN's too. Bytes become a word in `word` alone and a word
+// becomes bytes in `put_word` alone; a number is made of a word, and never of bytes.
 #![tactic(auto)]
 
 ghost use Rattle.std.specs.Prelude.{◌≡◌, true, ◌+◌, ◌≤◌, length};
@@ -6,11 +7,11 @@ ghost use Rattle.std.proofs.lemmas.List.Edits.{sets};
 ghost use Rattle.std.specs.Float.{binary64};
 ghost use Rattle.std.specs.Float.Ieee.{of_bits, to_bits};
 ghost use Rattle.std.specs.Float.Ieee.Scale.{finite};
-ghost use Rattle.words.specs.Word.{joined, word_at, value_at, bytes_of};
+ghost use Rattle.words.specs.Word.{word_at, value_at, bytes_of};
 
 // A slice and a place, and not a slice of eight bytes, which each caller would have to cut out and show to be of that length.
 
-// The word at s[at..at + 8]. Its bytes are named: cut out as an array they would have to be unwrapped.
+// The word at s[at..at + 8], the sum of byte i times 256^i. Its bytes are named: cut out as an array they would have to be unwrapped.
 pub fn word(s: &[u8], at: usize) -> u64
     requires { at + 8 ≤ length s.now }
     ensures { result ≡ word_at s.now at }
