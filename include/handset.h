@@ -54,7 +54,8 @@ enum handset_number {
     HANDSET_TOLERANCE = 7
 };
 
-/* ---- at the tolerance 1e-6 */
+/* ---- at the tolerance 1e-6. A block that a call of this header has stored, at any tolerance, is
+ * never refused as HANDSET_NOT_UNIT by one of these four. */
 
 /* The step `right` taken after `left`. No pointer is null, whatever the length beside it; each is
  * that of as many bytes as its length says; `out` overlaps neither input. The inputs may overlap. */
@@ -79,7 +80,8 @@ uint32_t sgal3_chain(const uint8_t *blocks, uint64_t blocks_len, uint8_t *out, u
 
 /* ---- at a tolerance of the caller's: how far the norm of a quaternion handed in may be from 1. An
  * element made on the way, such as a partial element of a chain, isn't held to it. All else, what is
- * asked of the pointers too, is as above; at 1e-6 the answers are the same. */
+ * asked of the pointers too, is as above; at 1e-6 the answers are the same. At a tolerance far below
+ * 1e-6 a stored block may be refused as HANDSET_NOT_UNIT. */
 
 /* sgal3_compose at a tolerance. */
 uint32_t sgal3_compose_within(const uint8_t *left, uint64_t left_len, const uint8_t *right,

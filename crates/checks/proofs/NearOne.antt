@@ -22,16 +22,16 @@ use Rattle.rounding.proofs.Laws.{plus-parts, minus-parts, one-pos, one-limit, ad
 use Rattle.checks.specs.Checks.{passed, permitted, check_tolerance, check_norm}
 
 -- ---- a number above zero, and one between two others
-record Positive (x : Float) : Type 0 where
-  number : Number x
-  sign : negative x ≡ false
-  some : 0 < count x
+pub record Positive (x : Float) : Type 0 where
+  pub number : Number x
+  pub sign : negative x ≡ false
+  pub some : 0 < count x
 
 -- the same as a test, which computes for a constant
 abbrev pub is_positive : Float → Bool
 is_positive x = (fits binary64 x && finite x) && (not (negative x) && ltb 0 (count x))
 
-positive : {x : Float} → T (is_positive x) → Positive x
+pub positive : {x : Float} → T (is_positive x) → Positive x
 positive {x} t =
     let l = and_l (fits binary64 x && finite x) (not (negative x) && ltb 0 (count x)) t in
     let r = and_r (fits binary64 x && finite x) (not (negative x) && ltb 0 (count x)) t in
@@ -89,25 +89,25 @@ between {a} {b} {x} A B t h k = go (negative x) refl
     go true e = absurd (none _ _ _ _ _ (parts-le A.number X h) (plus-parts a A.sign) (minus-parts x e).1 A.some)
 
 -- ---- the check's 1 and the largest tolerance, 1 / 1024
-abbrev one64 : Float
+abbrev pub one64 : Float
 one64 = of_bits binary64 0x3ff0_0000_0000_0000
 
-one64-positive : Positive one64
+pub one64-positive : Positive one64
 unfolding of_bits count negative fits
 one64-positive = positive tt
 
-one64-count : count one64 ≡ one
+pub one64-count : count one64 ≡ one
 unfolding of_bits count one
 one64-count = refl
 
-abbrev most64 : Float
+abbrev pub most64 : Float
 most64 = of_bits binary64 0x3f50_0000_0000_0000
 
-most64-positive : Positive most64
+pub most64-positive : Positive most64
 unfolding of_bits count negative fits
 most64-positive = positive tt
 
-most64-count : 2 ^ 10 * count most64 ≡ one
+pub most64-count : 2 ^ 10 * count most64 ≡ one
 unfolding of_bits count one
 most64-count = refl
 
@@ -171,7 +171,7 @@ is-permitted {t} A =
 coarse : (a b c t : ℕ) → 2 ^ 53 * a ≤ 2 ^ 53 * b + c → c ≤ 2 ^ 43 * t → 2 ^ 10 * a ≤ 2 ^ 10 * b + t
 coarse a b c t h k = omega arith
 
-le-of-square : (a b : ℕ) → square a ≤ square b → a ≤ b
+pub le-of-square : (a b : ℕ) → square a ≤ square b → a ≤ b
 le-of-square a b h = let g = square-lt a (b + 1) (omega arith) in omega arith
 
 -- R and O are the squares of r and o, n is s * o and x is t * o
@@ -304,7 +304,7 @@ near-one {r} {t} R A h k = record { number = D; size = go (negative d) refl }
     go true e = let p = minus-parts d e in difference-under (count r) one (count d) (count t) (rw (p.0, p.1) at error.under) k
 
 -- ---- the magnitude of a number
-magnitude-number : {x : Float} → Number x → Number (abs x)
+pub magnitude-number : {x : Float} → Number x → Number (abs x)
 unfolding abs fits
 magnitude-number {x} X = go x X
   where
@@ -313,13 +313,13 @@ magnitude-number {x} X = go x X
     go (inf s) X = absurd X.is_finite
     go (fin s m e) X = record { is_binary64 = X.is_binary64; is_finite = tt }
 
-magnitude-sign : (x : Float) → negative (abs x) ≡ false
+pub magnitude-sign : (x : Float) → negative (abs x) ≡ false
 unfolding abs negative
 magnitude-sign nan = refl
 magnitude-sign (inf s) = refl
 magnitude-sign (fin s m e) = refl
 
-magnitude-count : (x : Float) → count (abs x) ≡ count x
+pub magnitude-count : (x : Float) → count (abs x) ≡ count x
 unfolding abs count
 magnitude-count nan = refl
 magnitude-count (inf s) = refl

@@ -14,11 +14,25 @@ use Rattle.checks.specs.Checks.{Check, passed, and_then, both, tolerance, permit
 use Rattle.checks.specs.declared.Refusal.{Refusal}
 use Rattle.checks.specs.declared.Refusal.TheVariants.{Length, NotFinite, NotUnit, Tolerance}
 
-never : {A T : Type 0} {r : Refusal} {x : T} → ◌≡◌ {A = Result T Refusal} (Err r) (Ok x) → A
+-- a refusal is no answer
+pub never : {A T : Type 0} {r : Refusal} {x : T} → ◌≡◌ {A = Result T Refusal} (Err r) (Ok x) → A
 never {A} {r} e = let z : ◌≡◌ {A = ℕ} 0 1 = cc in absurd (apart z)
   where
     apart : ◌≡◌ {A = ℕ} 0 1 → ⊥
     apart z = omega arith
+
+pub same : {T : Type 0} {x y : T} → ◌≡◌ {A = Result T Refusal} (Ok x) (Ok y) → x ≡ y
+same e = cc
+
+-- an answer that follows another: the first one, and what was made of it
+pub record Followed {A T : Type 0} (r : Result A Refusal) (f : A → Result T Refusal) (c : T) : Type 0 where
+  pub answer : A
+  pub is : r ≡ Ok answer
+  pub after : f answer ≡ Ok c
+
+pub followed : {A T : Type 0} (r : Result A Refusal) (f : A → Result T Refusal) (c : T) → and_then r f ≡ Ok c → Followed r f c
+followed (Ok a) f c e = record { answer = a; is = refl; after = e }
+followed (Err r) f c e = never e
 
 first-passed : {x : ⊤} (a b : Check) → and_then a (λ _. b) ≡ Ok x → a ≡ passed
 first-passed (Ok y) b e = refl

@@ -7,13 +7,13 @@ use native.Mathlib.Nat.{le_trans, le_of_eq, mul_assoc, mul-le-mul_right, le_of_m
 use native.Mathlib.Omega.{arith}
 use lib.Dec.{T, ltb, lit≤}
 use lib.Pow.{pow_pos}
-use lib.IntN.{ℤ, nat_abs, neg_ℤ, ◌+ℤ◌, ◌-ℤ◌}
+use lib.IntN.{ℤ, pos, nat_abs, neg_ℤ, ◌+ℤ◌, ◌-ℤ◌, ◌*ℤ◌}
 use lib.Ieee.{Float, nan, inf, fin, binary64, unlike, round, neg, sum, add, sub, mul, div}
 use lib.Ieee.Scale.{finite}
 use Rattle.float.specs.Exact.{count, negative, signed, exact}
 use Rattle.rounding.specs.Number.{Number, one, limit, plus_part, minus_part}
 use Rattle.rounding.specs.Error.{Within, RoundedSum}
-use Rattle.rounding.proofs.Integers.{dist, above, below, difference-self, difference-add, difference-less, difference-abs}
+use Rattle.rounding.proofs.Integers.{signed-mul, signed-less, dist, above, below, difference-self, difference-add, difference-less, difference-abs}
 use Rattle.rounding.proofs.Counts.{add_is, mul_is, div_is, parts-sum, plus-parts, minus-parts, exact_above, exact_below, neg-number, neg-count, neg-sign, neg-parts}
 use Rattle.rounding.proofs.Round.{rounded, from-dist, rounded-error, round-counted, round_number}
 use Rattle.rounding.proofs.Sum.{add-error}
@@ -59,6 +59,29 @@ pub mul-sign : {x y : Float} → Number x → Number y → T (finite (mul binary
 mul-sign {x} {y} X Y t =
     let is = mul_is X Y in
     ap negative is ∙ (round-counted (unlike (negative x) (negative y)) (count x * count y) (2 ^ 2148) (subst (λ (v : Float). T (finite v)) is t)).sign
+
+-- the same over the integers, signs included
+pub mul-error-exact : {x y : Float} → Number x → Number y → T (finite (mul binary64 x y))
+    → 2 ^ 53 * nat_abs (exact (mul binary64 x y) *ℤ pos one -ℤ exact x *ℤ exact y) ≤ count x * count y + 2 ^ 52 * one
+unfolding exact
+mul-error-exact {x} {y} X Y t =
+    let z = mul binary64 x y in
+    let s = unlike (negative x) (negative y) in
+    rw (
+      mul-sign X Y t,
+      signed-mul s false (count z) one,
+      signed-mul (negative x) (negative y) (count x) (count y),
+      unlike-plain s,
+      signed-less s (count z * one) (count x * count y),
+    )
+    (near (count z * one) (count x * count y) _ (mul-error X Y t))
+  where
+    unlike-plain : (s : Bool) → unlike s false ≡ s
+    unlike-plain true = refl
+    unlike-plain false = refl
+
+    near : (a b e : ℕ) → Within (2 ^ 53 * a) (2 ^ 53 * b) e → 2 ^ 53 * dist a b ≤ e
+    near a b e w = omega (arith, w.over, w.under)
 
 -- ---- quotient
 pub div-number : {x y : Float} → Number x → Number y → 0 < count y → count x * one ≤ limit * count y → Number (div binary64 x y)
@@ -186,7 +209,7 @@ sub_is {x} {y} X Y =
 pub sub_number : {x y : Float} → Number x → Number y → count x + count y ≤ limit → Number (sub binary64 x y)
 sub_number {x} {y} X Y h = subst Number (sym (sub-is-add x y)) (add-number X (neg-number Y) (subst (λ (n : ℕ). count x + n ≤ limit) (sym (neg-count y)) h))
 
-neg-exact : {y : Float} → Number y → exact (neg y) ≡ neg_ℤ (exact y)
+pub neg-exact : {y : Float} → Number y → exact (neg y) ≡ neg_ℤ (exact y)
 unfolding exact
 neg-exact {y} Y = ap (λ (s : Bool). signed s (count (neg y))) (neg-sign Y) ∙ ap (signed (not (negative y))) (neg-count y) ∙ turn (negative y) (count y)
   where

@@ -21,7 +21,8 @@ module _ (norm : Float) where
   abbrev pub RefusedAs3 : Answer → Type 0
   RefusedAs3 o = o ≡ Err (NotUnit norm)
 
-  made : (e : Element) → RefusedAs3 (element_answer e) → ⊥
+  -- a result is never refused with 3
+  pub made : (e : Element) → RefusedAs3 (element_answer e) → ⊥
   unfolding element_answer
   made e = go (all_finite (Elements.coeffs e))
     where

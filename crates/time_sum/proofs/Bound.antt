@@ -13,21 +13,9 @@ use lib.Ieee.Scale.{finite}
 use Rattle.float.specs.Exact.{exact, count}
 use Rattle.rounding.specs.Number.{Number}
 use Rattle.rounding.specs.Error.{RoundedSum}
-use Rattle.rounding.proofs.Laws.{dist, above, below, difference-self, difference-add, difference-less, difference-abs, add-error, exact-size}
+use Rattle.rounding.proofs.Laws.{dist, above, below, difference-self, difference-add, difference-less, difference-abs, abs-add, add-error, exact-size}
 
--- ---- |x + y| ≤ |x| + |y|, and two more
-triangle : (a b c d : ℕ) → dist (a + c) (b + d) ≤ dist a b + dist c d
-triangle a b c d = omega arith
-
-pub abs-add : (x y : ℤ) → nat_abs (x +ℤ y) ≤ nat_abs x + nat_abs y
-abs-add x y =
-    rw (
-      difference-abs (x +ℤ y) (above x + above y) (below x + below y) (difference-add x y _ _ _ _ (difference-self x) (difference-self y)),
-      difference-abs x (above x) (below x) (difference-self x),
-      difference-abs y (above y) (below y) (difference-self y),
-    )
-    (triangle (above x) (below x) (above y) (below y))
-
+-- ---- over integers
 -- the error after a step is at most the addition's own and the one before
 step-error : (z t s x : ℤ) → nat_abs (z -ℤ (s +ℤ x)) ≤ nat_abs (z -ℤ (t +ℤ x)) + nat_abs (t -ℤ s)
 step-error z t s x =

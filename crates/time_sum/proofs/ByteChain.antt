@@ -20,7 +20,7 @@ use Rattle.time_sum.specs.RunningSum.{blocks, exact_sum, magnitude_sum}
 use Rattle.checks.proofs.Passed.{second-passed}
 use Rattle.time_sum.proofs.TimeSum.{values-blocks, chained, one_less}
 
-values : (n : ℕ) (s : List ℕ) (at : ℕ) → Calls.Binary64 (values_at n s at)
+pub values : (n : ℕ) (s : List ℕ) (at : ℕ) → Calls.Binary64 (values_at n s at)
 unfolding values_at value_at
 values zero s at = λ i. nan-fits binary64
 values (suc n) s at = go (values n s (at + 8))

@@ -35,11 +35,12 @@ use Rattle.handset.proofs.Outputs.{done-number, done-written, refused-number, re
 use Rattle.time_sum.specs.RunningSum.{time_of}
 use Rattle.time_sum.specs.EntryRuns.{Call, composed as Call·composed, composed_in_place, EntryRun, start, time_at, entered, called, after, Within}
 use Rattle.time_sum.proofs.Bound.{Summed, starts, adds}
-use Rattle.time_sum.proofs.Times.{never, composed, checked}
+use Rattle.checks.proofs.Passed.{never}
+use Rattle.time_sum.proofs.Times.{composed, checked}
 use Rattle.time_sum.proofs.TimeSum.{one_less}
 
 -- ---- an entry that answers: its output has the right length, and its blocks passed
-answered : (out : List ℕ) (a : Answer) (c : Element) → into out a ≡ Ok c → a ≡ Ok c
+pub answered : (out : List ℕ) (a : Answer) (c : Element) → into out a ≡ Ok c → a ≡ Ok c
 unfolding into both
 answered out a c = go a (check_output out)
   where

@@ -21,8 +21,8 @@ use Rattle.sgal3_composition.specs.Calls.{Answer}
 use Rattle.sgal3.specs.declared.Element.{Element}
 use Rattle.time_sum.specs.RunningSum.{RunningSum, start, time_of, entered, Call, after, steps, Binary64, Within, blocks, exact_sum, magnitude_sum}
 use Rattle.time_sum.proofs.Bound.{Summed, starts, adds}
-use Rattle.checks.proofs.Passed.{second-passed}
-use Rattle.time_sum.proofs.Times.{never, composed, checked, own-time}
+use Rattle.checks.proofs.Passed.{never, second-passed}
+use Rattle.time_sum.proofs.Times.{composed, checked, own-time}
 
 -- ---- one composed step: the held element's time is t, the step's block is s
 takes : {n : ℕ} {S : ℤ} {M : ℕ} (tolerance : Float) (held : Answer) (s : List Float) (a c : Element) → held ≡ Ok a

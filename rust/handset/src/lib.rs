@@ -34,7 +34,8 @@
 //!
 //! A norm may be 1e-6 away from 1. Where a sensor rounds its quaternions to fewer digits, the calls that end in `_within`
 //! take another tolerance, above 0 and at most 1/1024. Only what is handed in is held to it, and no element made on the
-//! way.
+//! way. What a call has answered, at any tolerance, is never refused as [`Refusal::NotUnit`] when it is handed in again at
+//! 1e-6.
 //!
 //! ```
 //! use handset::{Element, Held, Refusal};

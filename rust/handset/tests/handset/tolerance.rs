@@ -280,6 +280,74 @@ fn partial_elements() {
     assert!(refused.count() > 100);
 }
 
+/// What a call answers is accepted at 1e-6, after every step of a run, though the norm of each block is almost 1/1024 from 1.
+#[test]
+fn answers_come_back() {
+    let off = MOST * (1.0 - 1e-9);
+    let scaled = |q: [f64; 4], norm: f64| turned(q.map(|value| value * norm));
+    let three = [
+        scaled([0.6, 0.0, 0.8, 0.0], 1.0 + off),
+        scaled([0.8, 0.6, 0.0, 0.0], 1.0 - off),
+        scaled([0.0, 0.0, 0.28, -0.96], 1.0 + off),
+    ];
+    let steps: Vec<Element> = three.into_iter().cycle().take(4096).collect();
+    let mut held = Held::new();
+    for step in &steps {
+        assert_eq!(compose(&held.element(), step), Err(Refusal::NotUnit));
+        assert_eq!(held.step_within(step, MOST), Ok(()));
+        comes_back(&held.element());
+    }
+    let all = chain_within(&steps, MOST).expect("an answer");
+    assert_eq!(*held.as_bytes(), all.to_bytes());
+    comes_back(&inverse_within(&steps[0], MOST).expect("an answer"));
+}
+
+/// An answer whose norm is 1 + 3 * 2^-52: it is accepted at 1e-6, and refused at 2^-52.
+#[test]
+fn a_far_answer_comes_back() {
+    let of_bits = |bits: [u64; 4]| turned(bits.map(f64::from_bits));
+    let left = of_bits([
+        0xbfe6_9e21_3060_f75e,
+        0x3fe6_a35e_781f_46b1,
+        0xbe26_2136_ecae_b478,
+        0xbed3_1269_624b_b5aa,
+    ]);
+    let right = of_bits([
+        0xbe44_59bc_e662_3658,
+        0x3ff0_0005_05e6_ea9f,
+        0xbe57_230c_f5cd_3420,
+        0xbe50_e5a3_da68_d27c,
+    ]);
+    let answer = compose_within(&left, &right, MOST).expect("an answer");
+    let bits = [
+        0xbfe6_a33c_dc0f_b676,
+        0xbfe6_9dff_a349_cf45,
+        0xbed2_f5fe_b558_0fc1,
+        0xbe1a_8a9f_b933_792f,
+    ];
+    assert_eq!(answer.rotation.map(f64::to_bits), bits);
+    comes_back(&answer);
+    inverse_gives(answer, 3.0 * 2f64.powi(-52), 0);
+    inverse_gives(answer, 2f64.powi(-52), 3);
+}
+
+/// Each call takes an answer at 1e-6.
+fn comes_back(answer: &Element) {
+    let block = answer.to_bytes();
+    let calls = [
+        compose(answer, answer),
+        compose(answer, &element(B)),
+        compose(&element(B), answer),
+        inverse(answer),
+        chain(&[*answer, element(A), *answer]),
+    ];
+    assert!(calls.iter().all(Result::is_ok), "{answer:?}");
+    let mut out = [0; ELEMENT_BYTES];
+    assert_eq!(entries::inverse(&block, &mut out), 0);
+    assert_eq!(entries::compose(&block, &block, &mut out), 0);
+    assert_eq!(entries::chain([block; 3].as_flattened(), &mut out), 0);
+}
+
 /// The steps of a sensor that rounds its quaternions to four digits.
 #[test]
 fn four_digits() {

@@ -4,6 +4,8 @@
 //! caller's, on random byte blocks. Each number and all 88 bytes of the output have to be the reference's; after a refusal the
 //! output has to be as it was, and the inputs always. Every buffer is an allocation of its own of just the length that the call
 //! is told, so that under valgrind no byte beside it can be touched unseen.
+//! Each answer is handed in again at 1e-6, beside an earlier one: no call may refuse it with 3, and its squared norm has to be
+//! within 2^-46 of 1.
 //! Exit status: 0, no difference; 1, a difference, or an outcome that was never met; 2, a wrong command.
 
 use compare::{describe_outcome, describe_request};
@@ -11,7 +13,7 @@ use handset::{ELEMENT_BYTES, entries};
 use requests::calls::call;
 use requests::generators::Generator;
 use requests::random::Random;
-use requests::refusals::{LONGEST_CHAIN, NUMBERS, Refusal, TOLERANCE};
+use requests::refusals::{LONGEST_CHAIN, NUMBERS, Refusal, TOLERANCE, norm};
 use requests::{Call, Outcome, Request};
 use std::process::ExitCode;
 
@@ -55,6 +57,7 @@ fn main() -> ExitCode {
         }
     }
     let mut counts = [[0u64; 8]; ENTRIES.len()];
+    let mut again = Again::default();
     let mut generator = Generator::new(seed);
     let mut random = Random(!seed);
     let (mut request, mut outcome) = (Request::default(), Outcome::default());
@@ -70,7 +73,8 @@ fn main() -> ExitCode {
         if outcome.number == 0 {
             generator.learn(request.call(), &outcome);
         }
-        if let Err(difference) = compare(&entry, &outcome) {
+        let compared = compare(&entry, &outcome).and_then(|()| again.hand_in(&request, &outcome));
+        if let Err(difference) = compared {
             println!("a difference after {done} calls that are the same: {difference}");
             println!(
                 "{}: bytes {} and {}, output {}",
@@ -103,6 +107,10 @@ fn main() -> ExitCode {
             .collect();
         println!("{}: {}", name(entry), met.join(", "));
     }
+    println!(
+        "{} answers handed in again at 1e-6, of blocks whose norms were up to {:e} from 1: none refused with 3; the squared norms are at most {:.1} / 2^53 from 1",
+        again.answers, again.norm, again.squared
+    );
     println!("seed {seed}: {count} calls of the entries, no difference");
     if missing {
         println!("an outcome was never met: more calls are wanted");
@@ -232,4 +240,72 @@ fn compare(entry: &Entry, expected: &Outcome) -> Result<(), String> {
         _ if out != entry.out => Err("a refusal changed the output".into()),
         _ => Ok(()),
     }
+}
+
+/// How far the squared norm of an answer may be from 1, in counts of 2^-53.
+const SQUARED_NORM: f64 = 128.0;
+
+/// The answers that were handed in again.
+#[derive(Default)]
+struct Again {
+    answers: u64,
+    /// The one before.
+    earlier: Option<Box<[u8]>>,
+    /// The largest distance from 1: of the norm of a block that led to an answer, and of an answer's squared norm in counts of 2^-53.
+    norm: f64,
+    squared: f64,
+}
+
+impl Again {
+    /// Hands an answer in at 1e-6, alone and beside an earlier one. Each number is 0 or 5: both passed the check.
+    fn hand_in(&mut self, request: &Request, outcome: &Outcome) -> Result<(), String> {
+        if outcome.number != 0 {
+            return Ok(());
+        }
+        let rotation = |values: &[u64]| std::array::from_fn(|at| f64::from_bits(values[3 + at]));
+        let blocks = request.first.as_chunks::<11>().0.iter();
+        for block in blocks.chain(request.second.as_chunks().0) {
+            self.norm = self.norm.max((norm(rotation(block)) - 1.0).abs());
+        }
+        let squared = squared_norm_from_one(rotation(&outcome.values));
+        self.squared = self.squared.max(squared);
+        // of an infinite value it is a NaN
+        if squared.is_nan() || squared > SQUARED_NORM {
+            return Err(format!("the squared norm is {squared} / 2^53 from 1"));
+        }
+        let bytes = outcome.values.iter().flat_map(|bits| bits.to_le_bytes());
+        let answer: Box<[u8]> = bytes.collect();
+        let earlier = self
+            .earlier
+            .replace(answer.clone())
+            .unwrap_or(answer.clone());
+        let both = [&*answer, &*earlier].concat();
+        let mut out = vec![0; ELEMENT_BYTES];
+        let numbers = [
+            entries::inverse(&answer, &mut out),
+            entries::compose(&answer, &earlier, &mut out),
+            entries::compose(&earlier, &answer, &mut out),
+            entries::chain(&both, &mut out),
+        ];
+        self.answers += 1;
+        match numbers.iter().all(|number| [0, 5].contains(number)) {
+            true => Ok(()),
+            false => Err(format!(
+                "handed in again, the answer gives {numbers:?}, with {earlier:02X?}"
+            )),
+        }
+    }
+}
+
+/// |w² + x² + y² + z² - 1| in counts of 2^-53: each square and each sum with what its rounding leaves, so that the result is off by far less than a count.
+fn squared_norm_from_one(q: [f64; 4]) -> f64 {
+    let (mut sum, mut rest) = (-1.0, 0.0);
+    for value in q {
+        let square = value * value;
+        let total = sum + square;
+        let part = total - sum;
+        rest += value.mul_add(value, -square) + ((sum - (total - part)) + (square - part));
+        sum = total;
+    }
+    ((sum + rest) * 2f64.powi(53)).abs()
 }

@@ -470,6 +470,21 @@ pub fn tolerances() -> Vec<Limit> {
     limit("7 before 5", bad, "sgal3_compose", &late, &late, 7);
     limit("7 before 5", bad, "sgal3_chain", &[late, late].concat(), &[], 7);
 
+    // Two quaternions with norms up to 2.3e-5 from 1, and the one that compose makes of them, whose norm is 1 + 3 * 2^-52.
+    let of_bits = |bits: [u64; 4]| turned(bits.map(f64::from_bits));
+    let left = of_bits([0xbfe6_9e21_3060_f75e, 0x3fe6_a35e_781f_46b1, 0xbe26_2136_ecae_b478, 0xbed3_1269_624b_b5aa]);
+    let right = of_bits([0xbe44_59bc_e662_3658, 0x3ff0_0005_05e6_ea9f, 0xbe57_230c_f5cd_3420, 0xbe50_e5a3_da68_d27c]);
+    let answer = of_bits([0xbfe6_a33c_dc0f_b676, 0xbfe6_9dff_a349_cf45, 0xbed2_f5fe_b558_0fc1, 0xbe1a_8a9f_b933_792f]);
+    let says = "the quaternion of an answer, handed in again";
+    limit(says, MOST, "sgal3_compose", &left, &right, 0);
+    limit(says, MOST, "so3_compose", &left[3..7], &right[3..7], 0);
+    for (tolerance, number) in [(TOLERANCE, 0), (3.0 * 2f64.powi(-52), 0), (2f64.powi(-52), 3)] {
+        limit(says, tolerance, "sgal3_compose", &answer, &answer, number);
+        limit(says, tolerance, "sgal3_inverse", &answer, &[], number);
+        limit(says, tolerance, "sgal3_chain", &answer.repeat(3), &[], number);
+        limit(says, tolerance, "so3_inverse", &answer[3..7], &[], number);
+    }
+
     // The partial elements have other norms.
     let tilted = [[0.6, 0.0, 0.8, 0.0], [0.8, 0.6, 0.0, 0.0]].map(turned);
     limit("blocks of norm 1", 2f64.powi(-60), "sgal3_chain", &tilted.concat().repeat(20), &[], 0);

@@ -1,0 +1,5 @@
+pub mod AnyGroup
+pub mod Groups
+pub mod Elements
+pub mod Bytes
+pub mod Runs

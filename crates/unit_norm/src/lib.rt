@@ -1,0 +1,2 @@
+// How far from 1 the squared norm of a quaternion is that compose, inverse or normalize makes of accepted ones: laws alone, no code.
+#![tactic(auto)]
