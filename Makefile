@@ -10,6 +10,7 @@
 #                   seven kinds; APEX_SRC=.. names the folder of the Rust source, if it is not ../shared
 # make bench        times: the square root, and the calls beside the Rust source and plain Rust
 # make bench-turns  times: the C entries at 1e-6 beside those of another archive, OLD=.., by turns in one process
+# make stack        how many bytes of stack the C entries take, and those that are there for timing alone
 # make vectors      the stored vectors of the square root anew
 # make sample       the stored requests of the program `conformance` and the reference's answers anew
 # make cases        the stored inputs of the programs `chain` and `chain_cases`, and what they have to print, anew
@@ -56,7 +57,7 @@ TWO_AT_A_TIME = $(MAKE) --no-print-directory -j2 --output-sync=target IN_ORDER=
 
 .PHONY: run test test-tools test-sources test-built try try-requests toolchain-check readme-check test-rust test-c test-install install install-files \
 	vectors-check cases-check sample-check test-reference compare compare-sqrt compare-words compare-calls compare-entries valgrind-words valgrind-entries conformance \
-	bench bench-sqrt bench-handset bench-turns sgal3-lib vectors cases sample float-lib words-lib
+	bench bench-sqrt bench-handset bench-turns stack sgal3-lib vectors cases sample float-lib words-lib
 IN_ORDER = yes
 ifdef IN_ORDER
 .NOTPARALLEL:
@@ -228,6 +229,10 @@ bench-turns: lib
 	    mkdir -p target && objcopy --prefix-symbols=old_ "$(OLD)" target/libold.a && \
 	    gcc -std=gnu99 -O2 $(WARNINGS) -Itarget/lib c/bench_turns.c target/lib/libhandset.a target/libold.a -lm -o target/bench_turns && \
 	    size target/libold.a target/lib/libhandset.a && target/bench_turns; fi
+
+stack: lib sgal3-lib
+	@tools/stack target/lib/libhandset.a $$(sed -n 's/^uint32_t \(sgal3_[a-z_]*\)(.*/\1/p' include/handset.h)
+	@tools/stack target/staticlib/libsgal3_export.a sgal3_exp sgal3_log sgal3_adjoint sgal3_short_adjoint
 
 sgal3-lib: toolchain-check
 	@$(call STATIC_LIBRARY,sgal3_export)

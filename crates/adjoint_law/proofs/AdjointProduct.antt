@@ -8,7 +8,7 @@ use Rattle.law.specs.Matrix as Matrix
 use Rattle.law.specs.Matrix.{Matrix}
 use Rattle.law.specs.Quaternion as Quaternion
 use Rattle.law.specs.Rows as Rows
-use Rattle.law.specs.Galilean.{Element, compose, compose_at, row10, by_blocks, adjoint, adjoint_at}
+use Rattle.law.specs.Galilean.{Element, compose, compose_at, row10, by_blocks, adjoint, adjoint_at, opened}
 use Rattle.law.specs.Exact.{Exact, exact}
 use Rattle.ring.specs.Ring.{Ring}
 use Rattle.ring.proofs.Solver.{Expr, var, zer, eval}
@@ -25,9 +25,9 @@ module _ {A : Type 0} (𝓔 : Exact A) where
 
   -- the third column of blocks differs by (|q|² - 1) (R hat(p) - hat(p) R) R(r), and the last column by -(|q|² - 1) v
   adjoint_at-compose : (a b : Element A) → Unit 𝓔 a
-      → adjoint_at o (Quaternion.mul o a.rotation b.rotation) (compose_at o a.rotation b.rotation a b)
-      ≡ Rows.mul o (adjoint_at o a.rotation a) (adjoint_at o b.rotation b)
-  unfolding compose_at by_blocks adjoint_at row10 Rows.mul Rows.dot Rows.transpose Quaternion.rotate Quaternion.vector Quaternion.rotation_matrix Quaternion.mul Quaternion.norm_squared Matrix.hat Matrix.mul Matrix.row_by Matrix.scale Matrix.sub Vector.zero Vector.add Vector.sub Vector.neg Vector.scale Vector.cross agrees eval
+      → opened o (adjoint_at o (Quaternion.mul o a.rotation b.rotation) (compose_at o a.rotation b.rotation a b))
+      ≡ Rows.mul o (opened o (adjoint_at o a.rotation a)) (opened o (adjoint_at o b.rotation b))
+  unfolding compose_at opened by_blocks adjoint_at row10 Rows.mul Rows.dot Rows.transpose Quaternion.rotate Quaternion.vector Quaternion.rotation_matrix Quaternion.mul Quaternion.norm_squared Matrix.hat Matrix.mul Matrix.row_by Matrix.scale Matrix.sub Vector.zero Vector.add Vector.sub Vector.neg Vector.scale Vector.cross agrees eval
   adjoint_at-compose a b h =
       let m = written in
       let q = quaternion 3 in
@@ -42,15 +42,16 @@ module _ {A : Type 0} (𝓔 : Exact A) where
       solve_rows_by 𝓡 (of_element a (of_element b [])) (Quaternion.norm_squared m q) m.one h
       (row10 m k k t.row0 n.x ∷ row10 m k k t.row1 n.y ∷ row10 m k k t.row2 n.z
       ∷ row10 m k k v.row0 zer ∷ row10 m k k v.row1 zer ∷ row10 m k k v.row2 zer ∷ [])
-      (adjoint_at m (Quaternion.mul m q r) (compose_at m q r (element 0) (element 11)))
-      (Rows.mul m (adjoint_at m q (element 0)) (adjoint_at m r (element 11)))
+      (opened m (adjoint_at m (Quaternion.mul m q r) (compose_at m q r (element 0) (element 11))))
+      (Rows.mul m (opened m (adjoint_at m q (element 0))) (opened m (adjoint_at m r (element 11))))
       tt
 
   -- Ad(a b) = Ad(a) Ad(b)
-  pub adjoint-compose : (a b : Element A) → Unit 𝓔 a → Unit 𝓔 b → adjoint o (compose o a b) ≡ Rows.mul o (adjoint o a) (adjoint o b)
+  pub adjoint-compose : (a b : Element A) → Unit 𝓔 a → Unit 𝓔 b
+      → opened o (adjoint o (compose o a b)) ≡ Rows.mul o (opened o (adjoint o a)) (opened o (adjoint o b))
   unfolding compose_at
   adjoint-compose a b h k =
-      adjoint-is 𝓔 (compose o a b) (compose-unit 𝓔 a b h k)
-      ∙ ap (λ (c : Element A). adjoint_at o c.rotation c) (compose-is 𝓔 a b h k)
+      ap (opened o) (adjoint-is 𝓔 (compose o a b) (compose-unit 𝓔 a b h k))
+      ∙ ap (λ (c : Element A). opened o (adjoint_at o c.rotation c)) (compose-is 𝓔 a b h k)
       ∙ adjoint_at-compose a b h
-      ∙ ap₂ (Rows.mul o) (sym (adjoint-is 𝓔 a h)) (sym (adjoint-is 𝓔 b k))
+      ∙ ap₂ (λ c d. Rows.mul o (opened o c) (opened o d)) (sym (adjoint-is 𝓔 a h)) (sym (adjoint-is 𝓔 b k))

@@ -41,7 +41,7 @@ unfolding check_unit_quaternion
 checked-at s i t = rw (norm-at s i) refl
 
 -- ---- what is needed of a group: how its blocks hold an element and its quaternion, and that its operations make quaternions near 1
-pub record Normalising {G V J P : Type 0} (g : Group G V J P) (values : G → List Float) (rotation : G → Quaternion Float) : Type 0 where
+pub record Normalising {G V J P D : Type 0} (g : Group G V J P D) (values : G → List Float) (rotation : G → Quaternion Float) : Type 0 where
   pub of_block : (s : List Float) → rotation (g.element_of s) ≡ quaternion (quaternion_at s g.quaternion)
   pub values-length : (e : G) → length (values e) ≡ g.dim
   pub values-back : (e : G) → g.element_of (values e) ≡ e
@@ -49,7 +49,7 @@ pub record Normalising {G V J P : Type 0} (g : Group G V J P) (values : G → Li
   pub inverse : (a : G) → Accepted (rotation a) → Made (rotation (g.inverse a))
   pub normalize : (a : G) → Accepted (rotation a) → Made (rotation (g.normalize a))
 
-module _ {G V J P : Type 0} {g : Group G V J P} {values : G → List Float} {rotation : G → Quaternion Float} (R : Normalising g values rotation) where
+module _ {G V J P D : Type 0} {g : Group G V J P D} {values : G → List Float} {rotation : G → Quaternion Float} (R : Normalising g values rotation) where
   -- ---- a block that is accepted
   pub block-accepted : (s : List Float) (t : Float) (e : G) → Binary64At s g.quaternion → try_from_param_slice g s t ≡ Ok e → Accepted (rotation e)
   unfolding try_from_param_slice validate_params check_param_block quaternion_at

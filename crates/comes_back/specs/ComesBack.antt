@@ -16,7 +16,7 @@ use Rattle.unit_norm.specs.SquaredNorm.{SquaredNormNearOne}
 
 -- an element of a group, by its values and its quaternion: the squared norm is within 2 ^ -46 of 1, and the check at 1e-6 accepts the values, as that very
 -- element
-pub record ComesBack {G T J P : Type 0} (g : Group G T J P) (values : G → List Float) (rotation : G → Quaternion Float) (e : G) : Type 0 where
+pub record ComesBack {G T J P D : Type 0} (g : Group G T J P D) (values : G → List Float) (rotation : G → Quaternion Float) (e : G) : Type 0 where
   pub near_one : SquaredNormNearOne (rotation e)
   pub accepted : try_from_param_slice g (values e) tolerance ≡ Ok e
 

@@ -8,7 +8,8 @@ use Rattle.checks.specs.Checks.{all_finite}
 use Rattle.checks.proofs.Finite.{finite-at, finite-append}
 use Rattle.sgal3.specs.Elements as Elements
 use Rattle.sgal3.specs.declared.Element.{Element}
-use Rattle.element_bytes.specs.Steps.{vector_values, quaternion_values}
+use Rattle.linear.specs.Records.{vector_values}
+use Rattle.element_bytes.specs.Steps.{quaternion_values}
 
 module _ (e : Element) (h : all_finite (Elements.coeffs e) ≡ true) where
   after-translation : (all_finite (vector_values e.translation) ≡ true) × (all_finite (quaternion_values e.rotation ++ (vector_values e.velocity ++ (e.time ∷ []))) ≡ true)

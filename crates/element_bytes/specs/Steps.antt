@@ -13,10 +13,7 @@ vector_at s at = record { x = value_at s at; y = value_at s (at + 8); z = value_
 unfoldable pub quaternion_at : List ℕ → ℕ → Quaternion
 quaternion_at s at = record { w = value_at s at; x = value_at s (at + 8); y = value_at s (at + 16); z = value_at s (at + 24) }
 
--- the values of a vector and of a quaternion, in the order in which they are stored
-abbrev pub vector_values : Vec3 → List Float
-vector_values a = a.x ∷ a.y ∷ a.z ∷ []
-
+-- the values of a quaternion, in the order in which they are stored
 abbrev pub quaternion_values : Quaternion → List Float
 quaternion_values q = q.w ∷ q.x ∷ q.y ∷ q.z ∷ []
 

@@ -4,6 +4,7 @@
 ghost use Rattle.std.specs.Prelude.{◌≡◌, true, ◌+◌, ◌≤◌, length};
 ghost use Rattle.std.proofs.lemmas.List.Edits.{sets};
 ghost use Rattle.checks.specs.Checks.{all_finite, check_param_block};
+ghost use Rattle.linear.specs.Records.{vector_values};
 ghost use Rattle.sgal3.specs.Elements.{coeffs, element_of};
 ghost use Rattle.element_bytes.specs.Bytes as Bytes;
 ghost use Rattle.element_bytes.specs.Steps as Steps;
@@ -94,7 +95,7 @@ pub fn check_values(s: &[u8], at: usize, tolerance: f64) -> Result<(), Refusal>
 #[tactic(auto, unfolding(checks::specs::Checks::all_finite))]
 fn put_vector(out: &mut [u8], at: usize, a: Vec3)
     requires at_in_bounds { at + 24 ≤ length out.old }
-    requires a_value { all_finite (Steps.vector_values a) ≡ true }
+    requires a_value { all_finite (vector_values a) ≡ true }
     ensures { out.new ≡ sets out.old at (Steps.vector_bytes a) }
 {
     words::put_finite_value(out, at, a.x);

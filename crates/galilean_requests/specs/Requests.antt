@@ -1,7 +1,9 @@
 -- What a request on the Galilean group is answered, as bytes: the calls by their numbers, none where there is no such call. Definitions only.
 use Rattle.std.specs.Prelude.{ℕ, cond, List, [], ◌∷◌, eqb, ltb, Option, Some, None, Ok}
-use Rattle.manifold.specs.Answers.{answered, vector_values, matrix_values}
+use Rattle.linear.specs.Records.{vector_values, matrix_values}
+use Rattle.manifold.specs.Answers.{answered}
 use Rattle.manifold_blocks.specs.Calls as Generic
+use Rattle.sgal3_rows.specs.Adjoints as Adjoints
 use Rattle.sgal3_rows.specs.TenRows as TenRows
 use Rattle.so3.specs.Elements as So3
 use Rattle.sgal3.specs.Elements as Elements
@@ -54,9 +56,9 @@ unfoldable pub matrix_call : Request → Option (List ℕ)
 matrix_call r =
     cond (eqb r.call 91) (Some (Outcomes.of (λ m. m) 36 (Ok (Algebra.generator r.extra))))
     (cond (eqb r.call 92) (Some (Outcomes.of (λ m. m) 25 (Galilean.matrix r.left.now (Outcomes.tolerance r))))
-    (cond (eqb r.call 93) (Some (Outcomes.of TenRows.values 100 (Generic.adjoint group TenRows.values r.left.now (Outcomes.tolerance r))))
+    (cond (eqb r.call 93) (Some (Outcomes.of TenRows.values 100 (Generic.adjoint group TenRows.values Adjoints.opened r.left.now (Outcomes.tolerance r))))
     (cond (eqb r.call 94) (Some (Outcomes.of TenRows.values 100 (Generic.inverse_jacobian group TenRows.values r.left.now (Outcomes.tolerance r))))
-    (cond (eqb r.call 95) (Some (Outcomes.of TenRows.values 100 (Generic.compose_jacobian_self group TenRows.values r.left.now r.right.now (Outcomes.tolerance r))))
+    (cond (eqb r.call 95) (Some (Outcomes.of TenRows.values 100 (Generic.compose_jacobian_self group TenRows.values Adjoints.opened r.left.now r.right.now (Outcomes.tolerance r))))
     (cond (eqb r.call 96) (Some (Outcomes.of TenRows.values 100 (Generic.compose_jacobian_other group TenRows.values r.left.now r.right.now (Outcomes.tolerance r))))
     (cond (eqb r.call 97) (Some (Outcomes.of (λ m. m) 30 (Generic.act_jacobian_self group (λ m. m) r.left.now r.right.now (Outcomes.tolerance r))))
     (cond (eqb r.call 98) (Some (Outcomes.of (λ m. m) 36 (Generic.hat tangents (λ m. m) r.left.now)))
@@ -67,7 +69,7 @@ matrix_call r =
 unfoldable pub plus_call : Request → Option (List ℕ)
 plus_call r =
     cond (eqb r.call 100) (Some (Outcomes.of Elements.coeffs 0 (Generic.right_plus group tangents Elements.coeffs r.left.now r.right.now (Outcomes.tolerance r))))
-    (cond (eqb r.call 101) (Some (Outcomes.of TenRows.values 100 (Generic.right_plus_jacobian_self group tangents TenRows.values r.left.now r.right.now (Outcomes.tolerance r))))
+    (cond (eqb r.call 101) (Some (Outcomes.of TenRows.values 100 (Generic.right_plus_jacobian_self group tangents TenRows.values Adjoints.opened r.left.now r.right.now (Outcomes.tolerance r))))
     (cond (eqb r.call 102) (Some (Outcomes.of Elements.coeffs 0 (Generic.left_plus group tangents Elements.coeffs r.left.now r.right.now (Outcomes.tolerance r))))
     (cond (eqb r.call 103) (Some (Outcomes.of TenRows.values 100 (Generic.left_plus_jacobian_self group tangents TenRows.values r.left.now r.right.now (Outcomes.tolerance r))))
     (cond (eqb r.call 104) (Some (Outcomes.of Tangents.coeffs 0 (Generic.right_minus group Tangents.coeffs r.left.now r.right.now (Outcomes.tolerance r))))
@@ -78,12 +80,20 @@ plus_call r =
 unfoldable pub between_call : Request → Option (List ℕ)
 between_call r =
     cond (eqb r.call 106) (Some (Outcomes.of Elements.coeffs 0 (Generic.between group Elements.coeffs r.left.now r.right.now (Outcomes.tolerance r))))
-    (cond (eqb r.call 107) (Some (Outcomes.of TenRows.values 100 (Generic.between_jacobian_self group TenRows.values TenRows.neg r.left.now r.right.now (Outcomes.tolerance r))))
+    (cond (eqb r.call 107) (Some (Outcomes.of TenRows.values 100 (Generic.between_jacobian_self group TenRows.values Adjoints.opened TenRows.neg r.left.now r.right.now (Outcomes.tolerance r))))
     (cond (eqb r.call 108) (Some (Outcomes.of TenRows.values 100 (Generic.compose_jacobian_other group TenRows.values r.left.now r.right.now (Outcomes.tolerance r))))
     (cond (eqb r.call 109) (Some (Outcomes.of Elements.coeffs 0 (Generic.right_plus group tangents Elements.coeffs r.left.now r.right.now (Outcomes.tolerance r))))
-    (cond (eqb r.call 110) (Some (Outcomes.of TenRows.values 100 (Generic.right_plus_jacobian_self group tangents TenRows.values r.left.now r.right.now (Outcomes.tolerance r))))
+    (cond (eqb r.call 110) (Some (Outcomes.of TenRows.values 100 (Generic.right_plus_jacobian_self group tangents TenRows.values Adjoints.opened r.left.now r.right.now (Outcomes.tolerance r))))
     (cond (eqb r.call 111) (Some (Outcomes.of Tangents.coeffs 0 (Generic.right_minus group Tangents.coeffs r.left.now r.right.now (Outcomes.tolerance r))))
     None)))))
+
+-- the adjoints without their zeros
+unfoldable pub short_call : Request → Option (List ℕ)
+short_call r =
+    cond (eqb r.call 112) (Some (Outcomes.of Adjoints.values 39 (Generic.short_adjoint group Adjoints.values r.left.now (Outcomes.tolerance r))))
+    (cond (eqb r.call 113) (Some (Outcomes.of Adjoints.values 39 (Generic.short_compose_jacobian_self group Adjoints.values r.left.now r.right.now (Outcomes.tolerance r))))
+    (cond (eqb r.call 114) (Some (Outcomes.of Adjoints.values 39 (Generic.short_right_plus_jacobian_self group tangents Adjoints.values r.left.now r.right.now (Outcomes.tolerance r))))
+    None))
 
 unfoldable pub answer : Request → Option (List ℕ)
 answer r =
@@ -92,4 +102,5 @@ answer r =
     (cond (ltb r.call 91) (tangent_call r)
     (cond (ltb r.call 100) (matrix_call r)
     (cond (ltb r.call 106) (plus_call r)
-    (between_call r)))))
+    (cond (ltb r.call 112) (between_call r)
+    (short_call r))))))

@@ -1,4 +1,4 @@
-// A request on the Galilean group answered: the calls 70 to 111 by their numbers, and the outcome of each as bytes. None where there is no such
+// A request on the Galilean group answered: the calls 70 to 114 by their numbers, and the outcome of each as bytes. None where there is no such
 // call. The numbers are the format's: an enum or a table of the calls would list them a second time. In parts, and not shared with
 // `rotation_requests`: the reasons stand there.
 #![tactic(auto)]
@@ -183,6 +183,29 @@ fn between_call(r: Request<'_>, out: &mut [u8; 832]) -> Option<usize>
     }
 }
 
+// The adjoints without their zeros.
+#[tactic(auto, unfolding(crate::specs::Requests::short_call, outcomes::specs::Outcomes::Answered))]
+fn short_call(r: Request<'_>, out: &mut [u8; 832]) -> Option<usize>
+    ensures { Outcomes.Answered result out.old out.new (Requests.short_call r.entry) }
+{
+    let tolerance = r.tolerance();
+    match r.call {
+        112 => Some(outcomes::put(
+            out,
+            manifold_blocks::short_adjoint::<Element>(r.left, tolerance),
+        )),
+        113 => Some(outcomes::put(
+            out,
+            manifold_blocks::short_compose_jacobian_self::<Element>(r.left, r.right, tolerance),
+        )),
+        114 => Some(outcomes::put(
+            out,
+            manifold_blocks::short_right_plus_jacobian_self::<Element>(r.left, r.right, tolerance),
+        )),
+        _ => None,
+    }
+}
+
 #[tactic(auto, unfolding(crate::specs::Requests::answer, outcomes::specs::Outcomes::Answered))]
 pub fn answer(r: Request<'_>, out: &mut [u8; 832]) -> Option<usize>
     ensures { Outcomes.Answered result out.old out.new (Requests.answer r.entry) }
@@ -202,5 +225,8 @@ pub fn answer(r: Request<'_>, out: &mut [u8; 832]) -> Option<usize>
     if r.call < 106 {
         return plus_call(r, out);
     }
-    between_call(r, out)
+    if r.call < 112 {
+        return between_call(r, out);
+    }
+    short_call(r, out)
 }

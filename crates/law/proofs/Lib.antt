@@ -4,6 +4,7 @@ pub mod Series
 pub mod Exponential
 pub mod Group
 pub mod Adjoint
+pub mod Filled
 pub mod Model
 pub mod Hat
 pub mod Action

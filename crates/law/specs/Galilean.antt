@@ -1,5 +1,5 @@
 -- SGal(3): rotation R, translation t, velocity v and time s, in the words of sgal3.rs. Definitions only.
--- A formula that normalises is a body over the normalised quaternion (its name ends in At), and one line above it that says how often.
+-- A formula that normalises is a body over the normalised quaternion (its name ends in _at), and one line above it that says how often.
 use Rattle.std.specs.Prelude.{List, [], ◌∷◌, get_or}
 use Rattle.law.specs.Arithmetic.{Arithmetic}
 use Rattle.law.specs.Vector as Vector
@@ -22,6 +22,14 @@ pub record Tangent (A : Type 0) : Type 0 where
   pub nu : Vector A
   pub theta : Vector A
   pub s : A
+
+-- an adjoint by its blocks, 39 numbers: the rotation, and each other block under the row and the column of blocks, of rho, nu, theta and s, where it stands
+pub record Adjoint (A : Type 0) : Type 0 where
+  pub rotation : Matrix A
+  pub rho_nu : Matrix A
+  pub rho_theta : Matrix A
+  pub nu_theta : Matrix A
+  pub rho_s : Vector A
 
 module _ {A : Type 0} (o : Arithmetic A) where
   infixl 60 ◌⊕◌
@@ -158,17 +166,25 @@ module _ {A : Type 0} (o : Arithmetic A) where
       ∷ row10 n n n k
       ∷ []
 
-  -- [R, -s R, (hat t - s hat v) R, v]; [0, R, hat v R, 0]; [0, 0, R, 0]; the last row 0 but for a final 1
-  unfoldable pub adjoint_at : Quaternion A → Element A → List (List A)
+  -- R; -s R, (hat t - s hat v) R, hat v R and v
+  unfoldable pub adjoint_at : Quaternion A → Element A → Adjoint A
   adjoint_at q a =
       let r = Quaternion.rotation_matrix o q in
       let v = Matrix.hat o a.velocity in
-      let b = Matrix.scale o r (⊝ a.time) in
-      let c = Matrix.mul o (Matrix.sub o (Matrix.hat o a.translation) (Matrix.scale o v a.time)) r in
-      by_blocks r b c (Matrix.mul o v r) a.velocity 𝟙
+      record {
+        rotation = r;
+        rho_nu = Matrix.scale o r (⊝ a.time);
+        rho_theta = Matrix.mul o (Matrix.sub o (Matrix.hat o a.translation) (Matrix.scale o v a.time)) r;
+        nu_theta = Matrix.mul o v r;
+        rho_s = a.velocity;
+      }
 
-  unfoldable pub adjoint : Element A → List (List A)
+  unfoldable pub adjoint : Element A → Adjoint A
   adjoint a = adjoint_at (Rotation.unit_quaternion o (rotation_impl a)) a
+
+  -- all hundred places: [R, -s R, (hat t - s hat v) R, v]; [0, R, hat v R, 0]; [0, 0, R, 0]; the last row 0 but for a final 1
+  unfoldable pub opened : Adjoint A → List (List A)
+  opened d = by_blocks d.rotation d.rho_nu d.rho_theta d.nu_theta d.rho_s 𝟙
 
   -- [hat theta, -s I, hat rho, nu]; [0, hat theta, hat nu, 0]; [0, 0, hat theta, 0]; the last row 0. -s I is nine products
   unfoldable pub small_adj : Tangent A → List (List A)
@@ -199,12 +215,12 @@ module _ {A : Type 0} (o : Arithmetic A) where
   lie_bracket ξ η = apply_tangent (small_adj ξ) η
 
   -- ---- Jacobians
-  -- the negated adjoint: its empty places hold -0
+  -- the adjoint, opened and then negated: its empty places hold -0
   unfoldable pub inverse_jacobian : Element A → List (List A)
-  inverse_jacobian a = Rows.neg o (adjoint a)
+  inverse_jacobian a = Rows.neg o (opened (adjoint a))
 
   -- of compose a b with respect to a
-  unfoldable pub compose_jacobian_self : Element A → Element A → List (List A)
+  unfoldable pub compose_jacobian_self : Element A → Element A → Adjoint A
   compose_jacobian_self a b = adjoint (inverse b)
 
   -- of compose a b with respect to b: the 10 by 10 identity

@@ -302,14 +302,14 @@ worked_orders =
     ∷ zero ∷ zero ∷ zero ∷ one ∷ eight
     ∷ zero ∷ zero ∷ zero ∷ zero ∷ one ∷ [])
     -- the first three rows of the adjoint: all nine values of (hat t - s hat v) R differ in the expansion; and normalised twice
-    ∷ of Rows.by_row (take 3 (Galilean.adjoint rounded (element (vector six three six) q5113 (vector six five five) one)))
+    ∷ of Rows.by_row (take 3 (Galilean.opened rounded (Galilean.adjoint rounded (element (vector six three six) q5113 (vector six five five) one))))
     (0x3fdc_71c7_1c71_c71e ∷ 0xbfe8_e38e_38e3_8e39 ∷ 0x3fdc_71c7_1c71_c71c ∷ 0xbfdc_71c7_1c71_c71e ∷ 0x3fe8_e38e_38e3_8e39 ∷ 0xbfdc_71c7_1c71_c71c
     ∷ 0xbfe5_5555_5555_5556 ∷ 0xbff5_5555_5555_5556 ∷ 0xbffa_aaaa_aaaa_aaab ∷ six
     ∷ 0x3fec_71c7_1c71_c71d ∷ 0x3fdc_71c7_1c71_c71e ∷ 0xbfbc_71c7_1c71_c71e ∷ 0xbfec_71c7_1c71_c71d ∷ 0xbfdc_71c7_1c71_c71e ∷ 0x3fbc_71c7_1c71_c71e
     ∷ 0x3fdc_71c7_1c71_c71e ∷ 0xbfe8_e38e_38e3_8e39 ∷ 0x3fdc_71c7_1c71_c71c ∷ five
     ∷ 0xbfbc_71c7_1c71_c71e ∷ 0x3fdc_71c7_1c71_c71c ∷ 0x3fec_71c7_1c71_c71d ∷ 0x3fbc_71c7_1c71_c71e ∷ 0xbfdc_71c7_1c71_c71c ∷ 0xbfec_71c7_1c71_c71d
     ∷ 0x3fec_71c7_1c71_c71e ∷ 0xbff8_e38e_38e3_8e39 ∷ 0x3fec_71c7_1c71_c71c ∷ five ∷ [])
-    ∷ of Rows.by_row (take 1 (Galilean.adjoint rounded (element (vector one two three) q7·1·5·11 (vector four five six) eight)))
+    ∷ of Rows.by_row (take 1 (Galilean.opened rounded (Galilean.adjoint rounded (element (vector one two three) q7·1·5·11 (vector four five six) eight))))
     (0xbfdf_58d0_fac6_87d4 ∷ 0xbfe7_829c_bc14_e5e0 ∷ 0x3fde_0a72_f053_9782 ∷ 0x400f_58d0_fac6_87d4 ∷ 0x4017_829c_bc14_e5e0 ∷ 0xc00e_0a72_f053_9782
     ∷ 0x4047_7ac6_87d6_343e ∷ 0xc041_87d6_343e_b1a0 ∷ 0xc017_829c_bc14_e5dc ∷ four ∷ [])
     -- -s I is nine products: -0 off the diagonal
@@ -346,7 +346,7 @@ worked_orders =
     ∷ of (row 9) (Galilean.inverse_jacobian rounded (element (vector one two three) unit (vector four five six) half))
     (minus_zero ∷ minus_zero ∷ minus_zero ∷ minus_zero ∷ minus_zero ∷ minus_zero ∷ minus_zero ∷ minus_zero ∷ minus_zero ∷ minus_one ∷ [])
     -- compose's: normalised four times, twice by inverse and twice by the adjoint
-    ∷ of (row 0) (Galilean.compose_jacobian_self rounded (element origin unit origin zero) (element origin q10·14·17·16 origin zero))
+    ∷ of (row 0) (Galilean.opened rounded (Galilean.compose_jacobian_self rounded (element origin unit origin zero) (element origin q10·14·17·16 origin zero)))
     (0xbfd2_f2e9_2b87_7531 ∷ 0x3fee_49aa_28ca_1f0b ∷ 0x3fc0_7004_ded2_091e ∷ minus_zero ∷ zero ∷ zero ∷ zero ∷ zero ∷ zero ∷ minus_zero ∷ [])
     ∷ of Rows.by_row (Galilean.jacobian_identity rounded)
     (one ∷ zero ∷ zero ∷ zero ∷ zero ∷ zero ∷ zero ∷ zero ∷ zero ∷ zero

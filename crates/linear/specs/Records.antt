@@ -1,5 +1,5 @@
--- The code's records and the formulas' records, field by field, both ways. Definitions only.
-use Rattle.std.specs.Prelude.{Float}
+-- The code's records and the formulas' records, field by field, both ways; the values of a record as a list. Definitions only.
+use Rattle.std.specs.Prelude.{List, [], ◌∷◌, Float}
 use Rattle.law.specs.Vector.{Vector}
 use Rattle.law.specs.Quaternion.{Quaternion as Law-as-Quaternion}
 use Rattle.law.specs.Matrix.{Matrix}
@@ -24,3 +24,10 @@ matrix m = record { row0 = vector m.row0; row1 = vector m.row1; row2 = vector m.
 
 abbrev pub mat3 : Matrix Float → Mat3
 mat3 m = record { row0 = vec3 m.row0; row1 = vec3 m.row1; row2 = vec3 m.row2 }
+
+-- ---- the values of a vector, and of a matrix by row
+abbrev pub vector_values : Vec3 → List Float
+vector_values v = v.x ∷ v.y ∷ v.z ∷ []
+
+abbrev pub matrix_values : Mat3 → List Float
+matrix_values m = m.row0.x ∷ m.row0.y ∷ m.row0.z ∷ m.row1.x ∷ m.row1.y ∷ m.row1.z ∷ m.row2.x ∷ m.row2.y ∷ m.row2.z ∷ []

@@ -11,9 +11,10 @@ use Rattle.checks.specs.Checks.{all_finite}
 use Rattle.checks.specs.Outcomes.{outcome, result}
 use Rattle.checks.proofs.Passed.{never, same}
 use Rattle.checks.specs.declared.Refusal.TheVariants.{Overflow}
+use Rattle.linear.specs.Records.{vector_values, matrix_values}
 use Rattle.linear.specs.declared.Vec3.{Vec3}
 use Rattle.linear.specs.declared.Mat3.{Mat3}
-use Rattle.manifold.specs.Answers.{answered, vector_values, matrix_values}
+use Rattle.manifold.specs.Answers.{answered}
 use Rattle.manifold.specs.Outcomes.{vector, matrix, listed}
 
 -- a result that is answered is the answer, and its values are finite

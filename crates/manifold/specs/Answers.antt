@@ -1,5 +1,5 @@
 -- What a call answers: values that are all finite, or the refusal; and where a series is left. Definitions only.
-use Rattle.std.specs.Prelude.{ℕ, ◌+◌, Bool, cond, List, [], ◌∷◌, get_or, Result, Ok, Err, Float}
+use Rattle.std.specs.Prelude.{ℕ, ◌+◌, Bool, cond, List, get_or, Result, Ok, Err, Float}
 use Rattle.std.specs.Float.{nan, binary64}
 use Rattle.std.specs.Float.Ieee.{of_bits, lt}
 use Rattle.checks.specs.Checks.{Check, passed, all_finite}
@@ -7,7 +7,6 @@ use Rattle.checks.specs.declared.Refusal.{Refusal}
 use Rattle.checks.specs.declared.Refusal.TheVariants.{Turn, Overflow}
 use Rattle.linear.specs.declared.Vec3.{Vec3}
 use Rattle.linear.specs.declared.Quaternion.{Quaternion}
-use Rattle.linear.specs.declared.Mat3.{Mat3}
 
 -- the three values from place i on
 unfoldable pub vector_at : List Float → ℕ → Vec3
@@ -16,13 +15,6 @@ vector_at s i = record { x = get_or s i nan; y = get_or s (i + 1) nan; z = get_o
 -- w, x, y, z from place i on
 unfoldable pub quaternion_at : List Float → ℕ → Quaternion
 quaternion_at s i = record { w = get_or s i nan; x = get_or s (i + 1) nan; y = get_or s (i + 2) nan; z = get_or s (i + 3) nan }
-
-abbrev pub vector_values : Vec3 → List Float
-vector_values v = v.x ∷ v.y ∷ v.z ∷ []
-
--- by row
-abbrev pub matrix_values : Mat3 → List Float
-matrix_values m = m.row0.x ∷ m.row0.y ∷ m.row0.z ∷ m.row1.x ∷ m.row1.y ∷ m.row1.z ∷ m.row2.x ∷ m.row2.y ∷ m.row2.z ∷ []
 
 -- a result, or an overflow where one of its values is not finite
 unfoldable pub answered : {A : Type 0} → (A → List Float) → A → Result A Refusal

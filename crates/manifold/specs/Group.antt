@@ -6,8 +6,8 @@ use Rattle.checks.specs.declared.Refusal.{Refusal}
 use Rattle.linear.specs.declared.Vec3.{Vec3}
 use Rattle.linear.specs.declared.Mat3.{Mat3}
 
--- a group of elements G with tangents T; its Jacobians are matrices J, that of act with respect to the element a matrix P
-pub record Group (G T J P : Type 0) : Type 0 where
+-- a group of elements G with tangents T; its Jacobians are matrices J, that of act with respect to the element a matrix P; the short form of an adjoint is a D
+pub record Group (G T J P D : Type 0) : Type 0 where
   -- a block of so many values, the place of its quaternion, and the element of any such values
   pub dim : ℕ
   pub quaternion : ℕ
@@ -23,10 +23,10 @@ pub record Group (G T J P : Type 0) : Type 0 where
   pub normalize : G → G
   pub is_valid : G → Float → Bool
   pub jacobian_identity : J
-  pub adjoint : G → J
+  pub adjoint : G → D
   pub inverse_jacobian : G → J
   -- of compose a b with respect to a, of act a p with respect to a
-  pub compose_jacobian_self : G → G → J
+  pub compose_jacobian_self : G → G → D
   pub act_jacobian_self : G → Vec3 → P
 
 -- tangents T of a group of elements G; a tangent as a matrix is an A, its adjoint a J
@@ -47,15 +47,15 @@ pub record Tangents (G T J A : Type 0) : Type 0 where
   pub normalized : T → T
 
 -- ---- blocks
-unfoldable pub validate_params : {G T J P : Type 0} → Group G T J P → List Float → Float → Check
+unfoldable pub validate_params : {G T J P D : Type 0} → Group G T J P D → List Float → Float → Check
 validate_params g s tolerance = check_param_block s g.dim g.quaternion tolerance
 
 -- the element of any values: a wrong length alone is refused
-unfoldable pub from_param_slice : {G T J P : Type 0} → Group G T J P → List Float → Result G Refusal
+unfoldable pub from_param_slice : {G T J P D : Type 0} → Group G T J P D → List Float → Result G Refusal
 from_param_slice g s = and_then (check_length s g.dim) (λ _. Ok (g.element_of s))
 
 -- the element of a block, or why the block is refused
-unfoldable pub try_from_param_slice : {G T J P : Type 0} → Group G T J P → List Float → Float → Result G Refusal
+unfoldable pub try_from_param_slice : {G T J P D : Type 0} → Group G T J P D → List Float → Float → Result G Refusal
 try_from_param_slice g s tolerance = and_then (validate_params g s tolerance) (λ _. Ok (g.element_of s))
 
 -- the tangent of a block, or why the block is refused

@@ -3,9 +3,9 @@ use Rattle.std.specs.Prelude.{ℕ, Bool, List, [], ◌∷◌, replicate, Result,
 use Rattle.law.specs.Rounded.{rounded}
 use Rattle.checks.specs.Outcomes.{Outcome, outcome}
 use Rattle.checks.specs.declared.Refusal.{Refusal}
+use Rattle.linear.specs.Records.{vector_values, matrix_values}
 use Rattle.linear.specs.declared.Vec3.{Vec3}
 use Rattle.linear.specs.declared.Mat3.{Mat3}
-use Rattle.manifold.specs.Answers.{vector_values, matrix_values}
 
 -- of any answer, with n times +0 beside a refusal
 abbrev pub beside : {A : Type 0} → (A → List Float) → ℕ → Result A Refusal → Outcome Float

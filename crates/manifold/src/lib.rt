@@ -2,16 +2,20 @@
 // with their refusals, are in `manifold_blocks`.
 #![tactic(auto)]
 
-ghost use Rattle.std.specs.Prelude.{◌≡◌, ◌+◌, ◌≤◌, List, [], ◌∷◌, length, Float};
+ghost use Rattle.std.specs.Prelude.{◌≡◌, refl, ◌+◌, ◌≤◌, List, [], ◌∷◌, length, Float};
 ghost use Rattle.checks.specs.Checks.{all_finite};
 ghost use Rattle.linear.specs.Matrices as Matrices;
+ghost use Rattle.linear.specs.Records as Records;
 ghost use Rattle.manifold.specs.Answers as Answers;
 ghost use Rattle.manifold.specs.Group as Group;
 ghost use Rattle.manifold.specs.Operations as Operations;
+ghost use Rattle.sgal3_rows.proofs.Opened.{opened-finite};
+ghost use Rattle.sgal3_rows.specs.Adjoints as Adjoints;
 ghost use Rattle.sgal3_rows.specs.TenRows as TenRows;
 
 use checks::Refusal;
 use linear::{Mat3, Quaternion, Vec3};
+use sgal3_rows::Adjoint;
 
 // ---- What is answered
 
@@ -51,14 +55,14 @@ pub fn quaternion_at(s: &[f64], i: usize) -> Quaternion
 }
 
 pub fn vector_values(v: Vec3) -> [f64; 3]
-    ensures { result ≡ Answers.vector_values v }
+    ensures { result ≡ Records.vector_values v }
 {
     [v.x, v.y, v.z]
 }
 
 // By row.
 pub fn matrix_values(m: Mat3) -> [f64; 9]
-    ensures { result ≡ Answers.matrix_values m }
+    ensures { result ≡ Records.matrix_values m }
 {
     let a = m.row0;
     let b = m.row1;
@@ -67,7 +71,7 @@ pub fn matrix_values(m: Mat3) -> [f64; 9]
 }
 
 impl Values for Vec3 {
-    ghost values = { Answers.vector_values };
+    ghost values = { Records.vector_values };
 
     fn is_finite(&self) -> bool {
         checks::all_finite(&vector_values(*self))
@@ -75,7 +79,7 @@ impl Values for Vec3 {
 }
 
 impl Values for Mat3 {
-    ghost values = { Answers.matrix_values };
+    ghost values = { Records.matrix_values };
 
     fn is_finite(&self) -> bool {
         checks::all_finite(&matrix_values(*self))
@@ -163,6 +167,71 @@ impl Jacobian for [[f64; 10]; 10] {
     }
 }
 
+// The short form of an adjoint: of SO(3) the matrix, of SGal(3) its blocks alone.
+pub trait ShortForm: Values {
+    type Matrix: Jacobian;
+
+    ghost opened: { Self → Self.Matrix };
+
+    // The whole matrix.
+    fn open(self) -> Self::Matrix
+        ensures { result ≡ opened self };
+
+    // Both are finite, or neither.
+    ghost opened_finite: { (a : Self) → all_finite (Self.Matrix.values (opened a)) ≡ all_finite (Self.values a) };
+}
+
+impl ShortForm for Mat3 {
+    type Matrix = Mat3;
+
+    ghost opened = { λ m. m };
+
+    fn open(self) -> Mat3 {
+        self
+    }
+
+    ghost opened_finite = { λ m. refl };
+}
+
+// Block by block, so that no array of the 39 numbers has to be filled for the test.
+impl Values for Adjoint {
+    ghost values = { Adjoints.values };
+
+    #[tactic(auto, using(sgal3_rows::proofs::Opened::values_finite))]
+    fn is_finite(&self) -> bool {
+        self.rotation.is_finite()
+            && self.rho_nu.is_finite()
+            && self.rho_theta.is_finite()
+            && self.nu_theta.is_finite()
+            && self.rho_s.is_finite()
+    }
+}
+
+impl ShortForm for Adjoint {
+    type Matrix = [[f64; 10]; 10];
+
+    ghost opened = { Adjoints.opened };
+
+    fn open(self) -> [[f64; 10]; 10] {
+        Adjoint::open(self)
+    }
+
+    ghost opened_finite = { opened-finite };
+}
+
+// The whole matrix, or the refusal. The short form is tested: by `opened_finite` that says the same. By way of `answered`, or with an early return, this
+// takes at least 400 bytes of stack more (docs/PERFORMANCE.md).
+#[tactic(auto, unfolding(crate::specs::Answers::answered))]
+pub fn answered_open<A: ShortForm>(short: A) -> Result<A::Matrix, Refusal>
+    ensures { result ≡ Answers.answered A.Matrix.values (A.opened short) }
+{
+    if short.is_finite() {
+        Ok(short.open())
+    } else {
+        Err(Refusal::Overflow)
+    }
+}
+
 pub trait Tangent: Values {
     type Group: Values;
 
@@ -226,7 +295,9 @@ pub trait LieGroup: Values {
 
     type ActJacobian: Values;
 
-    ghost group: { Group.Group Self Self.TangentVector Self.JacobianMatrix Self.ActJacobian };
+    type Adjoint: ShortForm<Matrix = Self::JacobianMatrix>;
+
+    ghost group: { Group.Group Self Self.TangentVector Self.JacobianMatrix Self.ActJacobian Self.Adjoint };
 
     // How many values a block has, and the place of its quaternion.
     fn dim() -> usize
@@ -296,14 +367,14 @@ pub trait LieGroup: Values {
     fn jacobian_identity() -> Self::JacobianMatrix
         ensures { result ≡ group.jacobian_identity };
 
-    fn adjoint(self) -> Self::JacobianMatrix
+    fn adjoint(self) -> Self::Adjoint
         ensures { result ≡ group.adjoint self };
 
     fn inverse_jacobian(self) -> Self::JacobianMatrix
         ensures { result ≡ group.inverse_jacobian self };
 
     // Of compose with respect to self.
-    fn compose_jacobian_self(self, other: Self) -> Self::JacobianMatrix
+    fn compose_jacobian_self(self, other: Self) -> Self::Adjoint
         ensures { result ≡ group.compose_jacobian_self self other };
 
     // Of act with respect to self.
@@ -320,7 +391,7 @@ pub trait LieGroup: Values {
     }
 
     #[tactic(auto, unfolding(crate::specs::Operations::right_plus_jacobian_self))]
-    fn right_plus_jacobian_self(self, t: Self::TangentVector) -> Self::JacobianMatrix
+    fn right_plus_jacobian_self(self, t: Self::TangentVector) -> Self::Adjoint
         ensures { result ≡ Operations.right_plus_jacobian_self group Self.TangentVector.tangents self t }
     {
         self.compose_jacobian_self(t.exp())
@@ -343,9 +414,9 @@ pub trait LieGroup: Values {
 
     #[tactic(auto, unfolding(crate::specs::Operations::between_jacobian_self))]
     fn between_jacobian_self(self, other: Self) -> Self::JacobianMatrix
-        ensures { result ≡ Operations.between_jacobian_self group Self.JacobianMatrix.negated self other }
+        ensures { result ≡ Operations.between_jacobian_self group Self.Adjoint.opened Self.JacobianMatrix.negated self other }
     {
-        self.between(other).inverse().adjoint().neg()
+        self.between(other).inverse().adjoint().open().neg()
     }
 
     #[tactic(auto, unfolding(crate::specs::Operations::left_between))]

@@ -15,7 +15,7 @@ use Rattle.manifold.specs.Group.{Group, from_param_slice}
 use Rattle.manifold.specs.Outcomes.{valid}
 use Rattle.manifold_blocks.specs.Calls.{is_valid}
 
-pub is-valid-never-7 : {G T J P : Type 0} (g : Group G T J P) (s : List Float) (tolerance : Float) → (valid (is_valid g s tolerance)).number ≡ 7 → ⊥
+pub is-valid-never-7 : {G T J P D : Type 0} (g : Group G T J P D) (s : List Float) (tolerance : Float) → (valid (is_valid g s tolerance)).number ≡ 7 → ⊥
 unfolding is_valid from_param_slice check_length valid outcome number
 is-valid-never-7 g s tolerance = go (eqb (length s) g.dim)
   where

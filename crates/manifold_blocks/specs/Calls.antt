@@ -3,9 +3,10 @@
 use Rattle.std.specs.Prelude.{Bool, List, Result, Ok, Float}
 use Rattle.checks.specs.Checks.{and_then, both, check_values}
 use Rattle.checks.specs.declared.Refusal.{Refusal}
+use Rattle.linear.specs.Records.{vector_values, matrix_values}
 use Rattle.linear.specs.declared.Vec3.{Vec3}
 use Rattle.linear.specs.declared.Mat3.{Mat3}
-use Rattle.manifold.specs.Answers.{answered, within, vector_at, vector_values, matrix_values}
+use Rattle.manifold.specs.Answers.{answered, within, vector_at}
 use Rattle.manifold.specs.Group.{Group, Tangents, from_param_slice, try_from_param_slice, try_from_slice}
 use Rattle.manifold.specs.Operations as Operations
 
@@ -13,7 +14,7 @@ use Rattle.manifold.specs.Operations as Operations
 unfoldable pub vector : List Float → Result Vec3 Refusal
 vector s = and_then (check_values s 3) (λ _. Ok (vector_at s 0))
 
-module _ {G T J P : Type 0} (g : Group G T J P) where
+module _ {G T J P D : Type 0} (g : Group G T J P D) where
   -- ---- the element of a block, or of each of two
   abbrev pub element : List Float → Float → Result G Refusal
   element s tolerance = try_from_param_slice g s tolerance
@@ -59,15 +60,22 @@ module _ {G T J P : Type 0} (g : Group G T J P) where
   rotation_matrix block tolerance = and_then (element block tolerance) (λ a. answered matrix_values (g.rotation_matrix a))
 
   -- ---- their Jacobians
-  unfoldable pub adjoint : (J → List Float) → List Float → Float → Result J Refusal
-  adjoint values block tolerance = and_then (element block tolerance) (λ a. answered values (g.adjoint a))
+  -- the short form of the adjoint, and the adjoint opened
+  unfoldable pub short_adjoint : (D → List Float) → List Float → Float → Result D Refusal
+  short_adjoint values block tolerance = and_then (element block tolerance) (λ a. answered values (g.adjoint a))
+
+  unfoldable pub adjoint : (J → List Float) → (D → J) → List Float → Float → Result J Refusal
+  adjoint values opened block tolerance = and_then (element block tolerance) (λ a. answered values (opened (g.adjoint a)))
 
   unfoldable pub inverse_jacobian : (J → List Float) → List Float → Float → Result J Refusal
   inverse_jacobian values block tolerance = and_then (element block tolerance) (λ a. answered values (g.inverse_jacobian a))
 
-  -- of compose with respect to its left operand, and to its right one
-  unfoldable pub compose_jacobian_self : (J → List Float) → List Float → List Float → Float → Result J Refusal
-  compose_jacobian_self values left right tolerance = and_then (elements left right tolerance) (λ p. answered values (g.compose_jacobian_self p.0 p.1))
+  -- of compose with respect to its left operand, which is an adjoint, its short form and opened; and to its right one
+  unfoldable pub short_compose_jacobian_self : (D → List Float) → List Float → List Float → Float → Result D Refusal
+  short_compose_jacobian_self values left right tolerance = and_then (elements left right tolerance) (λ p. answered values (g.compose_jacobian_self p.0 p.1))
+
+  unfoldable pub compose_jacobian_self : (J → List Float) → (D → J) → List Float → List Float → Float → Result J Refusal
+  compose_jacobian_self values opened left right tolerance = and_then (elements left right tolerance) (λ p. answered values (opened (g.compose_jacobian_self p.0 p.1)))
 
   unfoldable pub compose_jacobian_other : (J → List Float) → List Float → List Float → Float → Result J Refusal
   compose_jacobian_other values left right tolerance = and_then (elements left right tolerance) (λ _. answered values g.jacobian_identity)
@@ -83,8 +91,8 @@ module _ {G T J P : Type 0} (g : Group G T J P) where
   unfoldable pub between : (G → List Float) → List Float → List Float → Float → Result G Refusal
   between values left right tolerance = and_then (elements left right tolerance) (λ p. answered values (Operations.between g p.0 p.1))
 
-  unfoldable pub between_jacobian_self : (J → List Float) → (J → J) → List Float → List Float → Float → Result J Refusal
-  between_jacobian_self values neg left right tolerance = and_then (elements left right tolerance) (λ p. answered values (Operations.between_jacobian_self g neg p.0 p.1))
+  unfoldable pub between_jacobian_self : (J → List Float) → (D → J) → (J → J) → List Float → List Float → Float → Result J Refusal
+  between_jacobian_self values opened neg left right tolerance = and_then (elements left right tolerance) (λ p. answered values (Operations.between_jacobian_self g opened neg p.0 p.1))
 
   unfoldable pub within_right_minus : List Float → List Float → Float → Result (G × G) Refusal
   within_right_minus left right tolerance = and_then (elements left right tolerance) (λ p. and_then (within (g.leaves_series (Operations.between g p.1 p.0))) (λ _. Ok p))
@@ -128,7 +136,7 @@ module _ {G T J A : Type 0} (h : Tangents G T J A) where
   unfoldable pub normalized_tangent : (T → List Float) → List Float → Result T Refusal
   normalized_tangent values block = and_then (tangent block) (λ t. answered values (h.normalized t))
 
-module _ {G T J P A : Type 0} (g : Group G T J P) (h : Tangents G T J A) where
+module _ {G T J P D A : Type 0} (g : Group G T J P D) (h : Tangents G T J A) where
   -- ---- plus: refused where the exp of its tangent would leave its series
   abbrev pub element_and_tangent : List Float → List Float → Float → Result (G × T) Refusal
   element_and_tangent block s tolerance = both (element g block tolerance) (tangent h s)
@@ -139,8 +147,12 @@ module _ {G T J P A : Type 0} (g : Group G T J P) (h : Tangents G T J A) where
   unfoldable pub right_plus : (G → List Float) → List Float → List Float → Float → Result G Refusal
   right_plus values block s tolerance = and_then (within_plus block s tolerance) (λ p. answered values (Operations.right_plus g h p.0 p.1))
 
-  unfoldable pub right_plus_jacobian_self : (J → List Float) → List Float → List Float → Float → Result J Refusal
-  right_plus_jacobian_self values block s tolerance = and_then (within_plus block s tolerance) (λ p. answered values (Operations.right_plus_jacobian_self g h p.0 p.1))
+  -- its Jacobian, an adjoint, its short form and opened
+  unfoldable pub short_right_plus_jacobian_self : (D → List Float) → List Float → List Float → Float → Result D Refusal
+  short_right_plus_jacobian_self values block s tolerance = and_then (within_plus block s tolerance) (λ p. answered values (Operations.right_plus_jacobian_self g h p.0 p.1))
+
+  unfoldable pub right_plus_jacobian_self : (J → List Float) → (D → J) → List Float → List Float → Float → Result J Refusal
+  right_plus_jacobian_self values opened block s tolerance = and_then (within_plus block s tolerance) (λ p. answered values (opened (Operations.right_plus_jacobian_self g h p.0 p.1)))
 
   unfoldable pub left_plus : (G → List Float) → List Float → List Float → Float → Result G Refusal
   left_plus values block s tolerance = and_then (within_plus block s tolerance) (λ p. answered values (Operations.left_plus g h p.0 p.1))

@@ -3,7 +3,6 @@
 #![tactic(auto)]
 
 ghost use Rattle.std.specs.Prelude.{◌≡◌};
-ghost use Rattle.linear.specs.Matrices as Matrices;
 ghost use Rattle.manifold_blocks.specs.Calls as Calls;
 
 use checks::Refusal;
@@ -135,12 +134,21 @@ pub fn rotation_matrix<G: LieGroup>(block: &[f64], tolerance: f64) -> Result<Mat
 // ---- Their Jacobians. These calls, as those above and below, are alike but for the operation that each names in its last line; with the operation as
 // a parameter the contract would be the caller's to state.
 
-#[tactic(auto, unfolding(crate::specs::Calls::adjoint))]
-pub fn adjoint<G: LieGroup>(block: &[f64], tolerance: f64) -> Result<G::JacobianMatrix, Refusal>
-    ensures { result ≡ Calls.adjoint G.group G.JacobianMatrix.values block.now tolerance }
+// The short form of the adjoint; the next opens it.
+#[tactic(auto, unfolding(crate::specs::Calls::short_adjoint))]
+pub fn short_adjoint<G: LieGroup>(block: &[f64], tolerance: f64) -> Result<G::Adjoint, Refusal>
+    ensures { result ≡ Calls.short_adjoint G.group G.Adjoint.values block.now tolerance }
 {
     let a = G::try_from_param_slice(block, tolerance)?;
     manifold::answered(a.adjoint())
+}
+
+#[tactic(auto, unfolding(crate::specs::Calls::adjoint))]
+pub fn adjoint<G: LieGroup>(block: &[f64], tolerance: f64) -> Result<G::JacobianMatrix, Refusal>
+    ensures { result ≡ Calls.adjoint G.group G.JacobianMatrix.values G.Adjoint.opened block.now tolerance }
+{
+    let a = G::try_from_param_slice(block, tolerance)?;
+    manifold::answered_open(a.adjoint())
 }
 
 #[tactic(auto, unfolding(crate::specs::Calls::inverse_jacobian))]
@@ -154,17 +162,29 @@ pub fn inverse_jacobian<G: LieGroup>(
     manifold::answered(a.inverse_jacobian())
 }
 
-// Of compose with respect to its left operand.
+// Of compose with respect to its left operand, an adjoint: its short form, and opened.
+#[tactic(auto, unfolding(crate::specs::Calls::short_compose_jacobian_self))]
+pub fn short_compose_jacobian_self<G: LieGroup>(
+    left: &[f64],
+    right: &[f64],
+    tolerance: f64,
+) -> Result<G::Adjoint, Refusal>
+    ensures { result ≡ Calls.short_compose_jacobian_self G.group G.Adjoint.values left.now right.now tolerance }
+{
+    let (a, b) = elements::<G>(left, right, tolerance)?;
+    manifold::answered(a.compose_jacobian_self(b))
+}
+
 #[tactic(auto, unfolding(crate::specs::Calls::compose_jacobian_self))]
 pub fn compose_jacobian_self<G: LieGroup>(
     left: &[f64],
     right: &[f64],
     tolerance: f64,
 ) -> Result<G::JacobianMatrix, Refusal>
-    ensures { result ≡ Calls.compose_jacobian_self G.group G.JacobianMatrix.values left.now right.now tolerance }
+    ensures { result ≡ Calls.compose_jacobian_self G.group G.JacobianMatrix.values G.Adjoint.opened left.now right.now tolerance }
 {
     let (a, b) = elements::<G>(left, right, tolerance)?;
-    manifold::answered(a.compose_jacobian_self(b))
+    manifold::answered_open(a.compose_jacobian_self(b))
 }
 
 // Of compose with respect to its right operand.
@@ -287,7 +307,7 @@ pub fn between_jacobian_self<G: LieGroup>(
     right: &[f64],
     tolerance: f64,
 ) -> Result<G::JacobianMatrix, Refusal>
-    ensures { result ≡ Calls.between_jacobian_self G.group G.JacobianMatrix.values G.JacobianMatrix.negated left.now right.now tolerance }
+    ensures { result ≡ Calls.between_jacobian_self G.group G.JacobianMatrix.values G.Adjoint.opened G.JacobianMatrix.negated left.now right.now tolerance }
 {
     let (a, b) = elements::<G>(left, right, tolerance)?;
     manifold::answered(a.between_jacobian_self(b))
@@ -403,16 +423,29 @@ pub fn right_plus<G: LieGroup>(block: &[f64], tangent: &[f64], tolerance: f64) -
     manifold::answered(a.right_plus(t))
 }
 
+// Of right_plus with respect to the element, an adjoint: its short form, and opened.
+#[tactic(auto, unfolding(crate::specs::Calls::short_right_plus_jacobian_self))]
+pub fn short_right_plus_jacobian_self<G: LieGroup>(
+    block: &[f64],
+    tangent: &[f64],
+    tolerance: f64,
+) -> Result<G::Adjoint, Refusal>
+    ensures { result ≡ Calls.short_right_plus_jacobian_self G.group G.TangentVector.tangents G.Adjoint.values block.now tangent.now tolerance }
+{
+    let (a, t) = within_plus::<G>(block, tangent, tolerance)?;
+    manifold::answered(a.right_plus_jacobian_self(t))
+}
+
 #[tactic(auto, unfolding(crate::specs::Calls::right_plus_jacobian_self))]
 pub fn right_plus_jacobian_self<G: LieGroup>(
     block: &[f64],
     tangent: &[f64],
     tolerance: f64,
 ) -> Result<G::JacobianMatrix, Refusal>
-    ensures { result ≡ Calls.right_plus_jacobian_self G.group G.TangentVector.tangents G.JacobianMatrix.values block.now tangent.now tolerance }
+    ensures { result ≡ Calls.right_plus_jacobian_self G.group G.TangentVector.tangents G.JacobianMatrix.values G.Adjoint.opened block.now tangent.now tolerance }
 {
     let (a, t) = within_plus::<G>(block, tangent, tolerance)?;
-    manifold::answered(a.right_plus_jacobian_self(t))
+    manifold::answered_open(a.right_plus_jacobian_self(t))
 }
 
 #[tactic(auto, unfolding(crate::specs::Calls::left_plus))]
@@ -447,7 +480,7 @@ pub fn plus_jacobian_self<G: LieGroup>(
     tangent: &[f64],
     tolerance: f64,
 ) -> Result<G::JacobianMatrix, Refusal>
-    ensures { result ≡ Calls.right_plus_jacobian_self G.group G.TangentVector.tangents G.JacobianMatrix.values block.now tangent.now tolerance }
+    ensures { result ≡ Calls.right_plus_jacobian_self G.group G.TangentVector.tangents G.JacobianMatrix.values G.Adjoint.opened block.now tangent.now tolerance }
 {
     right_plus_jacobian_self::<G>(block, tangent, tolerance)
 }

@@ -9,6 +9,7 @@ use lib.ListN.{length, drop, get_or, replicate, length-append, length-replicate,
 use lib.Seq.{sets, drop-cons}
 use lib.Ieee.{Float, binary64, to_bits}
 use mir.Val.{bool_byte}
+use Rattle.std.proofs.lemmas.List.{map-append}
 use Rattle.words.specs.Word.{bytes_of, word_bytes}
 use Rattle.words.proofs.Stores.{sets-append}
 use Rattle.std.specs.Prelude.{Ok, Err}
@@ -118,20 +119,24 @@ answer-count values n k x e =
 pub after-header : (l b : List ℕ) (c : Check) (n : ℕ) → sets (sets l 0 (header_of c n)) 32 b ≡ sets l 0 (header_of c n ++ b)
 after-header l b c n = sets-append (header_of c n) b l 0 32 (omega (arith, header-length c n))
 
--- ---- ten rows of ten
+-- ---- values, then others after them
 words_append : (a b : List ℕ) → word_bytes (a ++ b) ≡ word_bytes a ++ word_bytes b
 unfolding word_bytes
 words_append [] b = refl
 words_append (n ∷ a) b = ap (λ (t : List ℕ). bytes_of n ++ t) (words_append a b) ∙ sym (append_assoc (bytes_of n) (word_bytes a) (word_bytes b))
 
-map-append : {A : Type 0} (f : A → ℕ) (xs ys : List A) → map f (xs ++ ys) ≡ map f xs ++ map f ys
-map-append f [] ys = refl
-map-append f (x ∷ xs) ys = ap (λ (t : List ℕ). f x ∷ t) (map-append f xs ys)
+bits-append : (a b : List Float) → bits (a ++ b) ≡ bits a ++ bits b
+unfolding bits
+bits-append a b = ap word_bytes (map-append (to_bits binary64) a b) ∙ words_append (map (to_bits binary64) a) (map (to_bits binary64) b)
 
+pub more-values : (l : List ℕ) (i j : ℕ) (a b : List Float) → i + length a * 8 ≡ j → sets (sets l i (bits a)) j (bits b) ≡ sets l i (bits (a ++ b))
+more-values l i j a b e = sets-append (bits a) (bits b) l i j (omega (arith, bits-length a, e)) ∙ ap (sets l i) (sym (bits-append a b))
+
+-- ---- ten rows of ten
 -- a row's bits, then the others'
 row-bits : (r : List Float) (rs : List (List Float)) → bits (values (r ∷ rs)) ≡ bits r ++ bits (values rs)
-unfolding values bits
-row-bits r rs = ap word_bytes (map-append (to_bits binary64) r (values rs)) ∙ words_append (map (to_bits binary64) r) (map (to_bits binary64) (values rs))
+unfolding values
+row-bits r rs = bits-append r (values rs)
 
 pub next_row : (l : List ℕ) (rows : List (List Float)) (d : List Float) (k : ℕ) → k < length rows → length (get_or rows k d) ≡ 10
     → sets l (32 + k * 80) (bits (values (drop k rows))) ≡ sets (sets l (32 + k * 80) (bits (get_or rows k d))) (32 + (k + 1) * 80) (bits (values (drop (k + 1) rows)))

@@ -4,12 +4,14 @@
 ghost use Rattle.std.specs.Prelude.{◌≡◌, ℕ, ◌+◌, ◌*◌, ◌≤◌, length};
 ghost use Rattle.std.proofs.lemmas.List.Edits.{sets};
 ghost use Rattle.checks.specs.Refusals as Refusals;
+ghost use Rattle.linear.specs.Records.{matrix_values};
 ghost use Rattle.sgal3_rows.specs.TenRows as TenRows;
 ghost use Rattle.outcomes.specs.Outcomes as Outcomes;
 
 use checks::Refusal;
 use linear::{Mat3, Vec3};
 use manifold::Values;
+use sgal3_rows::Adjoint;
 
 // The number of a call, its two blocks, and a word besides: the bits of a tolerance, or of a generator its place. The number is the format's own: an
 // enum of the calls would list them a second time.
@@ -137,14 +139,16 @@ pub trait ToWords: Values {
     ghost ZEROS: { ℕ };
 
     // After the header.
-    fn store(&self, out: &mut [u8; 832])
-        requires { COUNT ≤ 100 }
+    fn store(&self, out: &mut [u8])
+        requires { 32 + COUNT * 8 ≤ length out.old }
         ensures count { length (Self.values self.now) ≡ COUNT }
         ensures stored { out.new ≡ sets out.old 32 (Outcomes.bits (Self.values self.now)) };
 }
 
-fn put_refusal(out: &mut [u8; 832], r: Refusal, zeros: usize) -> usize
-    requires { zeros ≤ 100 }
+// The +0 are taken from an array of a hundred.
+fn put_refusal(out: &mut [u8], r: Refusal, zeros: usize) -> usize
+    requires most { zeros ≤ 100 }
+    requires fits { 32 + zeros * 8 ≤ length out.old }
     ensures { Outcomes.Put result out.old out.new (Outcomes.of_refusal r zeros) }
 {
     put_header(out, Err(r), zeros as u64);
@@ -152,9 +156,11 @@ fn put_refusal(out: &mut [u8; 832], r: Refusal, zeros: usize) -> usize
     32 + zeros * 8
 }
 
-pub fn put<A: ToWords>(out: &mut [u8; 832], answer: Result<A, Refusal>) -> usize
-    requires count_fits { A.COUNT ≤ 100 }
-    requires zeros_fit { A.ZEROS ≤ 100 }
+// Into an array with room for it.
+pub fn put<A: ToWords, const N: usize>(out: &mut [u8; N], answer: Result<A, Refusal>) -> usize
+    requires count_fits { 32 + A.COUNT * 8 ≤ N }
+    requires zeros_fit { 32 + A.ZEROS * 8 ≤ N }
+    requires most { A.ZEROS ≤ 100 }
     ensures { Outcomes.Put result out.old out.new (Outcomes.of A.values A.ZEROS answer) }
 {
     match answer {
@@ -178,7 +184,7 @@ impl ToWords for f64 {
 
     ghost ZEROS = { 0 };
 
-    fn store(&self, out: &mut [u8; 832]) {
+    fn store(&self, out: &mut [u8]) {
         put_values(out, 32, &[*self]);
     }
 }
@@ -192,7 +198,7 @@ impl ToWords for Vec3 {
 
     ghost ZEROS = { 0 };
 
-    fn store(&self, out: &mut [u8; 832]) {
+    fn store(&self, out: &mut [u8]) {
         put_values(out, 32, &manifold::vector_values(*self));
     }
 }
@@ -206,8 +212,8 @@ impl ToWords for Mat3 {
 
     ghost ZEROS = { 9 };
 
-    fn store(&self, out: &mut [u8; 832]) {
-        put_values(out, 32, &manifold::matrix_values(*self));
+    fn store(&self, out: &mut [u8]) {
+        put_matrix(out, 32, *self);
     }
 }
 
@@ -221,7 +227,7 @@ impl<const N: usize> ToWords for [f64; N] {
 
     ghost ZEROS = { N };
 
-    fn store(&self, out: &mut [u8; 832]) {
+    fn store(&self, out: &mut [u8]) {
         put_values(out, 32, self);
     }
 }
@@ -235,8 +241,27 @@ impl ToWords for [[f64; 10]; 10] {
 
     ghost ZEROS = { 100 };
 
-    fn store(&self, out: &mut [u8; 832]) {
+    fn store(&self, out: &mut [u8]) {
         put_rows(out, self);
+    }
+}
+
+// The 39 numbers, block after block.
+impl ToWords for Adjoint {
+    const COUNT: usize = 39;
+
+    const ZEROS: usize = 39;
+
+    ghost COUNT = { 39 };
+
+    ghost ZEROS = { 39 };
+
+    fn store(&self, out: &mut [u8]) {
+        put_matrix(out, 32, self.rotation);
+        put_matrix(out, 104, self.rho_nu);
+        put_matrix(out, 176, self.rho_theta);
+        put_matrix(out, 248, self.nu_theta);
+        put_values(out, 320, &manifold::vector_values(self.rho_s));
     }
 }
 
@@ -250,7 +275,7 @@ impl ToWords for so3::Element {
 
     ghost ZEROS = { 0 };
 
-    fn store(&self, out: &mut [u8; 832]) {
+    fn store(&self, out: &mut [u8]) {
         put_values(out, 32, &self.coeffs());
     }
 }
@@ -265,7 +290,7 @@ impl ToWords for so3::Tangent {
     ghost ZEROS = { 0 };
 
     #[tactic(auto, unfolding(so3::specs::Tangents::values))]
-    fn store(&self, out: &mut [u8; 832]) {
+    fn store(&self, out: &mut [u8]) {
         self.theta.store(out);
     }
 }
@@ -279,7 +304,7 @@ impl ToWords for sgal3::Element {
 
     ghost ZEROS = { 0 };
 
-    fn store(&self, out: &mut [u8; 832]) {
+    fn store(&self, out: &mut [u8]) {
         put_values(out, 32, &self.coeffs());
     }
 }
@@ -293,7 +318,7 @@ impl ToWords for sgal3::Tangent {
 
     ghost ZEROS = { 0 };
 
-    fn store(&self, out: &mut [u8; 832]) {
+    fn store(&self, out: &mut [u8]) {
         put_values(out, 32, &self.coeffs());
     }
 }
@@ -305,6 +330,13 @@ fn put_row(out: &mut [u8], at: usize, row: &[f64; 10])
     ensures stored { out.new ≡ sets out.old at (Outcomes.bits row.now) }
 {
     put_values(out, at, row);
+}
+
+fn put_matrix(out: &mut [u8], at: usize, m: Mat3)
+    requires { at + 72 ≤ length out.old }
+    ensures { out.new ≡ sets out.old at (Outcomes.bits (matrix_values m)) }
+{
+    put_values(out, at, &manifold::matrix_values(m));
 }
 
 fn put_rows(out: &mut [u8], rows: &[[f64; 10]; 10])

@@ -1,8 +1,9 @@
 -- What a request on rotations is answered, as bytes: the calls by their numbers, none where there is no such call. Definitions only.
 use Rattle.std.specs.Prelude.{ℕ, cond, List, eqb, ltb, length, get_or, Option, Some, None}
 use Rattle.std.specs.Float.{nan}
+use Rattle.linear.specs.Records.{vector_values, matrix_values}
 use Rattle.linear.specs.Matrices as Matrices
-use Rattle.manifold.specs.Answers.{answered, vector_values, matrix_values}
+use Rattle.manifold.specs.Answers.{answered}
 use Rattle.manifold_blocks.specs.Calls as Generic
 use Rattle.so3.specs.Elements as Elements
 use Rattle.so3.specs.Tangents as Tangents
@@ -27,7 +28,7 @@ rotation_call r =
     (cond (eqb r.call 13) (Some (Outcomes.of Elements.values 0 (Generic.inverse group Elements.values r.left.now (Outcomes.tolerance r))))
     (cond (eqb r.call 14) (Some (Outcomes.of matrix_values 9 (Generic.inverse_jacobian group matrix_values r.left.now (Outcomes.tolerance r))))
     (cond (eqb r.call 15) (Some (Outcomes.of Elements.values 0 (Generic.compose group Elements.values r.left.now r.right.now (Outcomes.tolerance r))))
-    (cond (eqb r.call 16) (Some (Outcomes.of matrix_values 9 (Generic.compose_jacobian_self group matrix_values r.left.now r.right.now (Outcomes.tolerance r))))
+    (cond (eqb r.call 16) (Some (Outcomes.of matrix_values 9 (Generic.compose_jacobian_self group matrix_values (λ m. m) r.left.now r.right.now (Outcomes.tolerance r))))
     (cond (eqb r.call 17) (Some (Outcomes.of matrix_values 9 (Generic.compose_jacobian_other group matrix_values r.left.now r.right.now (Outcomes.tolerance r))))
     None)))))))
 
@@ -40,7 +41,7 @@ rotation_log_call r =
     (cond (eqb r.call 21) (Some (Outcomes.of vector_values 0 (Generic.act group r.left.now r.right.now (Outcomes.tolerance r))))
     (cond (eqb r.call 22) (Some (Outcomes.of matrix_values 9 (Generic.act_jacobian_self group matrix_values r.left.now r.right.now (Outcomes.tolerance r))))
     (cond (eqb r.call 23) (Some (Outcomes.of matrix_values 9 (Generic.act_jacobian_vector group r.left.now r.right.now (Outcomes.tolerance r))))
-    (cond (eqb r.call 24) (Some (Outcomes.of matrix_values 9 (Generic.adjoint group matrix_values r.left.now (Outcomes.tolerance r))))
+    (cond (eqb r.call 24) (Some (Outcomes.of matrix_values 9 (Generic.adjoint group matrix_values (λ m. m) r.left.now (Outcomes.tolerance r))))
     (cond (eqb r.call 25) (Some (Outcomes.of Elements.values 0 (Generic.normalize group Elements.values r.left.now (Outcomes.tolerance r))))
     None)))))))
 
@@ -72,7 +73,7 @@ rotation_tangent_call r =
 unfoldable pub rotation_plus_call : Request → Option (List ℕ)
 rotation_plus_call r =
     cond (eqb r.call 40) (Some (Outcomes.of Elements.values 0 (Generic.right_plus group tangents Elements.values r.left.now r.right.now (Outcomes.tolerance r))))
-    (cond (eqb r.call 41) (Some (Outcomes.of matrix_values 9 (Generic.right_plus_jacobian_self group tangents matrix_values r.left.now r.right.now (Outcomes.tolerance r))))
+    (cond (eqb r.call 41) (Some (Outcomes.of matrix_values 9 (Generic.right_plus_jacobian_self group tangents matrix_values (λ m. m) r.left.now r.right.now (Outcomes.tolerance r))))
     (cond (eqb r.call 42) (Some (Outcomes.of matrix_values 9 (Rotations.right_plus_jacobian_tangent r.left.now r.right.now (Outcomes.tolerance r))))
     (cond (eqb r.call 43) (Some (Outcomes.of Elements.values 0 (Generic.left_plus group tangents Elements.values r.left.now r.right.now (Outcomes.tolerance r))))
     (cond (eqb r.call 44) (Some (Outcomes.of matrix_values 9 (Rotations.left_plus_jacobian_tangent r.left.now r.right.now (Outcomes.tolerance r))))
@@ -94,10 +95,10 @@ rotation_minus_call r =
 unfoldable pub rotation_between_call : Request → Option (List ℕ)
 rotation_between_call r =
     cond (eqb r.call 52) (Some (Outcomes.of Elements.values 0 (Generic.between group Elements.values r.left.now r.right.now (Outcomes.tolerance r))))
-    (cond (eqb r.call 53) (Some (Outcomes.of matrix_values 9 (Generic.between_jacobian_self group matrix_values Matrices.neg r.left.now r.right.now (Outcomes.tolerance r))))
+    (cond (eqb r.call 53) (Some (Outcomes.of matrix_values 9 (Generic.between_jacobian_self group matrix_values (λ m. m) Matrices.neg r.left.now r.right.now (Outcomes.tolerance r))))
     (cond (eqb r.call 54) (Some (Outcomes.of matrix_values 9 (Generic.compose_jacobian_other group matrix_values r.left.now r.right.now (Outcomes.tolerance r))))
     (cond (eqb r.call 55) (Some (Outcomes.of Elements.values 0 (Generic.right_plus group tangents Elements.values r.left.now r.right.now (Outcomes.tolerance r))))
-    (cond (eqb r.call 56) (Some (Outcomes.of matrix_values 9 (Generic.right_plus_jacobian_self group tangents matrix_values r.left.now r.right.now (Outcomes.tolerance r))))
+    (cond (eqb r.call 56) (Some (Outcomes.of matrix_values 9 (Generic.right_plus_jacobian_self group tangents matrix_values (λ m. m) r.left.now r.right.now (Outcomes.tolerance r))))
     (cond (eqb r.call 57) (Some (Outcomes.of matrix_values 9 (Rotations.right_plus_jacobian_tangent r.left.now r.right.now (Outcomes.tolerance r))))
     (cond (eqb r.call 58) (Some (Outcomes.of Tangents.values 0 (Generic.right_minus group Tangents.values r.left.now r.right.now (Outcomes.tolerance r))))
     (cond (eqb r.call 59) (Some (Outcomes.of matrix_values 9 (Rotations.right_minus_jacobian_self r.left.now r.right.now (Outcomes.tolerance r))))

@@ -1,3 +1,4 @@
 pub mod Sums
 pub mod Outcomes
 pub mod Dots
+pub mod Filled

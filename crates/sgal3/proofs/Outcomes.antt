@@ -1,4 +1,4 @@
--- What is answered with a Galilean tangent, or with a 10 by 10 matrix: its values, or an overflow. Assumes nothing.
+-- What is answered with a Galilean tangent, an adjoint or a 10 by 10 matrix: its values, or an overflow. Assumes nothing.
 use mathlib.Core.Path.{◌≡◌}
 use mathlib.Core.List.{List, []}
 use lib.ListN.{replicate}
@@ -7,14 +7,20 @@ use Rattle.law.specs.Rounded.{rounded}
 use Rattle.checks.specs.Outcomes.{result}
 use Rattle.manifold.specs.Answers.{answered}
 use Rattle.manifold.proofs.Outcomes.{answered-outcome}
+use Rattle.sgal3_rows.specs.Adjoints as Adjoints
 use Rattle.sgal3_rows.specs.TenRows as TenRows
+use Rattle.sgal3_rows.specs.declared.Adjoint.{Adjoint}
 use Rattle.sgal3.specs.Tangents as Tangents
-use Rattle.sgal3.specs.Outcomes.{tangent, matrix10}
+use Rattle.sgal3.specs.Outcomes.{tangent, short_adjoint, matrix10}
 use Rattle.sgal3.specs.declared.Tangent.{Tangent}
 
 pub tangent-outcome : (t : Tangent) → tangent (answered Tangents.coeffs t) ≡ result (Tangents.coeffs t) []
 unfolding tangent
 tangent-outcome = answered-outcome Tangents.coeffs []
+
+pub short_adjoint-outcome : (d : Adjoint) → short_adjoint (answered Adjoints.values d) ≡ result (Adjoints.values d) (replicate 39 rounded.zero)
+unfolding short_adjoint
+short_adjoint-outcome = answered-outcome Adjoints.values (replicate 39 rounded.zero)
 
 pub matrix10-outcome : (m : List (List Float)) → matrix10 (answered TenRows.values m) ≡ result (TenRows.values m) (replicate 100 rounded.zero)
 unfolding matrix10

@@ -1,6 +1,7 @@
 -- SGal(3) as a group with its tangents. Definitions only.
 use Rattle.std.specs.Prelude.{Bool, List, Float}
 use Rattle.manifold.specs.Group as Manifold
+use Rattle.sgal3_rows.specs.declared.Adjoint.{Adjoint}
 use Rattle.so3.specs.Group as So3
 use Rattle.sgal3.specs.Elements as Elements
 use Rattle.sgal3.specs.Tangents as Tangents
@@ -17,7 +18,7 @@ log_leaves_series a = So3.log_jacobian_leaves_series (Elements.rotation_impl a)
 unfoldable pub exp_leaves_series : Tangent → Bool
 exp_leaves_series t = So3.exp_leaves_series (Tangents.turn t)
 
-abbrev pub group : Manifold.Group Element Tangent (List (List Float)) (List Float)
+abbrev pub group : Manifold.Group Element Tangent (List (List Float)) (List Float) Adjoint
 group =
     record {
       dim = 11;

@@ -2,7 +2,7 @@
 // normalises it, and an operation of SO(3) on that once more.
 #![tactic(auto)]
 
-ghost use Rattle.std.specs.Prelude.{◌≡◌, length};
+ghost use Rattle.std.specs.Prelude.{◌≡◌};
 ghost use Rattle.sgal3.specs.Algebra as Algebra;
 ghost use Rattle.sgal3.specs.Elements as Elements;
 ghost use Rattle.sgal3.specs.Group as Group;
@@ -11,6 +11,7 @@ ghost use Rattle.sgal3.specs.Tangents as Tangents;
 
 use linear::{Mat3, Quaternion, Vec3};
 use manifold::{Jacobian, LieGroup, Tangent as _, Values};
+use sgal3_rows::Adjoint;
 
 // A block's values in their order: translation, quaternion w, x, y, z, velocity, time.
 #[derive(Clone, Copy)]
@@ -109,6 +110,8 @@ impl LieGroup for Element {
     type JacobianMatrix = [[f64; 10]; 10];
 
     type ActJacobian = [f64; 30];
+
+    type Adjoint = Adjoint;
 
     ghost group = { Group.group };
 
@@ -240,25 +243,31 @@ impl LieGroup for Element {
         sgal3_rows::by_blocks(Mat3::identity(), z, z, z, Vec3::zero(), 1.0)
     }
 
-    fn adjoint(self) -> [[f64; 10]; 10] {
-        let r = self.rotation_matrix();
+    fn adjoint(self) -> Adjoint {
+        let rotation = self.rotation_matrix();
         let v = self.velocity;
-        let b = r.scale(-self.time);
+        let rho_nu = rotation.scale(-self.time);
         let nu_skew = Mat3::hat(v);
-        let c = Mat3::hat(self.translation)
+        let rho_theta = Mat3::hat(self.translation)
             .sub(nu_skew.scale(self.time))
-            .mul(r);
-        sgal3_rows::by_blocks(r, b, c, nu_skew.mul(r), v, 1.0)
+            .mul(rotation);
+        Adjoint {
+            rotation,
+            rho_nu,
+            rho_theta,
+            nu_theta: nu_skew.mul(rotation),
+            rho_s: v,
+        }
     }
 
-    // The adjoint is negated after it is filled. This and the next as in so3, where the reason stands.
-    #[tactic(auto, unfolding(crate::specs::Matrices::inverse_jacobian, sgal3_rows::specs::TenRows::neg, crate::specs::Matrices::adjoint, law::specs::Galilean::inverse_jacobian))]
+    // The adjoint is negated after it is opened. This and the next as in so3, where the reason stands.
+    #[tactic(auto, unfolding(crate::specs::Matrices::inverse_jacobian, sgal3_rows::specs::Adjoints::opened, sgal3_rows::specs::TenRows::neg, crate::specs::Matrices::adjoint, law::specs::Galilean::inverse_jacobian))]
     fn inverse_jacobian(self) -> [[f64; 10]; 10] {
-        self.adjoint().neg()
+        self.adjoint().open().neg()
     }
 
     #[tactic(auto, unfolding(crate::specs::Matrices::compose_jacobian_self, crate::specs::Matrices::adjoint, crate::specs::Elements::inverse, law::specs::Galilean::compose_jacobian_self))]
-    fn compose_jacobian_self(self, other: Element) -> [[f64; 10]; 10] {
+    fn compose_jacobian_self(self, other: Element) -> Adjoint {
         other.inverse().adjoint()
     }
 

@@ -2,8 +2,9 @@
 use Rattle.std.specs.Prelude.{List, Result, Ok, Float}
 use Rattle.checks.specs.Checks.{and_then}
 use Rattle.checks.specs.declared.Refusal.{Refusal}
+use Rattle.linear.specs.Records.{vector_values}
 use Rattle.linear.specs.declared.Vec3.{Vec3}
-use Rattle.manifold.specs.Answers.{answered, vector_values}
+use Rattle.manifold.specs.Answers.{answered}
 use Rattle.manifold_blocks.specs.Calls as Generic
 use Rattle.so3.specs.Elements as So3
 use Rattle.so3.specs.declared.Element.{Element as Rotation}

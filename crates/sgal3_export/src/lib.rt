@@ -1,4 +1,4 @@
-// exp, and log and adjoint at 1e-6, for C and Rust, to be timed there: a call on a block of values, and its outcome as bytes.
+// exp, and log and the adjoint, short and in full, at 1e-6, for C and Rust, to be timed there: a call on a block of values, and its outcome as bytes.
 #![tactic(auto)]
 
 ghost use Rattle.checks.specs.Checks as Checks;
@@ -7,11 +7,12 @@ ghost use Rattle.outcomes.specs.Outcomes as Outcomes;
 ghost use Rattle.sgal3.specs.Elements as Elements;
 ghost use Rattle.sgal3.specs.Group.{group, tangents};
 ghost use Rattle.sgal3.specs.Tangents as Tangents;
+ghost use Rattle.sgal3_rows.specs.Adjoints as Adjoints;
 ghost use Rattle.sgal3_rows.specs.TenRows as TenRows;
 
 use sgal3::{Element, Tangent};
 
-// Three names for C, which knows no type parameters; and into the caller's buffer, since there is no heap.
+// Names for C, which knows no type parameters; and into the caller's buffer, since there is no heap.
 
 #[unsafe(no_mangle)]
 pub extern "C" fn sgal3_exp(tangent: &[f64], out: &mut [u8; 832]) -> usize
@@ -32,10 +33,21 @@ pub extern "C" fn sgal3_log(block: &[f64], out: &mut [u8; 832]) -> usize
 
 #[unsafe(no_mangle)]
 pub extern "C" fn sgal3_adjoint(block: &[f64], out: &mut [u8; 832]) -> usize
-    ensures { Outcomes.Put result out.old out.new (Outcomes.of TenRows.values 100 (Calls.adjoint group TenRows.values block.now Checks.tolerance)) }
+    ensures { Outcomes.Put result out.old out.new (Outcomes.of TenRows.values 100 (Calls.adjoint group TenRows.values Adjoints.opened block.now Checks.tolerance)) }
 {
     outcomes::put(
         out,
         manifold_blocks::adjoint::<Element>(block, checks::tolerance()),
+    )
+}
+
+// The adjoint's 39 numbers: 344 bytes where the ten rows take 832.
+#[unsafe(no_mangle)]
+pub extern "C" fn sgal3_short_adjoint(block: &[f64], out: &mut [u8; 344]) -> usize
+    ensures { Outcomes.Put result out.old out.new (Outcomes.of Adjoints.values 39 (Calls.short_adjoint group Adjoints.values block.now Checks.tolerance)) }
+{
+    outcomes::put(
+        out,
+        manifold_blocks::short_adjoint::<Element>(block, checks::tolerance()),
     )
 }

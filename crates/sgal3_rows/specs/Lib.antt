@@ -1,1 +1,2 @@
 pub mod TenRows
+pub mod Adjoints

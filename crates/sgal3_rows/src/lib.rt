@@ -1,8 +1,9 @@
-// Matrices of ten rows of ten for the Galilean group: their layout by blocks, negation, the test of their values.
+// Matrices of ten rows of ten for the Galilean group: their layout by blocks, negation, the test of their values; the adjoint by its blocks alone.
 #![tactic(auto)]
 
 ghost use Rattle.std.specs.Prelude.{◌≡◌};
 ghost use Rattle.checks.specs.Checks.{all_finite};
+ghost use Rattle.sgal3_rows.specs.Adjoints as Adjoints;
 ghost use Rattle.sgal3_rows.specs.TenRows as TenRows;
 
 use linear::{Mat3, Vec3};
@@ -64,4 +65,34 @@ pub fn all_finite(m: &[[f64; 10]; 10]) -> bool
         }
     }
     true
+}
+
+// ---- The adjoint without its zeros
+
+// 39 numbers. The rotation stands on the diagonal; each other block is named by the row and the column of blocks where it stands, of rho, nu,
+// theta and s.
+#[derive(Clone, Copy)]
+pub struct Adjoint {
+    pub rotation: Mat3,
+    pub rho_nu: Mat3,
+    pub rho_theta: Mat3,
+    pub nu_theta: Mat3,
+    pub rho_s: Vec3,
+}
+
+impl Adjoint {
+    // The ten rows.
+    #[tactic(auto, unfolding(crate::specs::Adjoints::opened, crate::specs::TenRows::by_blocks, law::specs::Galilean::opened))]
+    pub fn open(self) -> [[f64; 10]; 10]
+        ensures { result ≡ Adjoints.opened self }
+    {
+        by_blocks(
+            self.rotation,
+            self.rho_nu,
+            self.rho_theta,
+            self.nu_theta,
+            self.rho_s,
+            1.0,
+        )
+    }
 }

@@ -21,7 +21,7 @@ exp_leaves_series t = Answers.leaves_series (Tangents.theta_squared t)
 unfoldable pub log_jacobian_leaves_series : Element → Bool
 log_jacobian_leaves_series a = exp_leaves_series (Elements.log a) || log_leaves_series a
 
-abbrev pub group : Manifold.Group Element Tangent Mat3 Mat3
+abbrev pub group : Manifold.Group Element Tangent Mat3 Mat3 Mat3
 group =
     record {
       dim = 4;

@@ -7,9 +7,9 @@ use Rattle.law.specs.Vector as Law-as-Vector
 use Rattle.law.specs.Matrix as Law-as-Matrix
 use Rattle.law.specs.Rotation as Law
 use Rattle.law.specs.Series as Series
-use Rattle.linear.specs.Records.{vector, vec3, of_quaternion, mat3}
+use Rattle.linear.specs.Records.{vector, vec3, of_quaternion, mat3, vector_values}
 use Rattle.linear.specs.Matrices as Matrices
-use Rattle.manifold.specs.Answers.{vector_at, vector_values}
+use Rattle.manifold.specs.Answers.{vector_at}
 use Rattle.linear.specs.declared.Vec3.{Vec3}
 use Rattle.linear.specs.declared.Mat3.{Mat3}
 use Rattle.so3.specs.declared.Element.{Element}

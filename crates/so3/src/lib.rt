@@ -2,7 +2,7 @@
 // normalises them first.
 #![tactic(auto)]
 
-ghost use Rattle.std.specs.Prelude.{◌≡◌, length};
+ghost use Rattle.std.specs.Prelude.{◌≡◌};
 ghost use Rattle.so3.specs.Elements as Elements;
 ghost use Rattle.so3.specs.Group as Group;
 ghost use Rattle.so3.specs.Jacobians as Jacobians;
@@ -145,6 +145,9 @@ impl LieGroup for Element {
     type JacobianMatrix = Mat3;
 
     type ActJacobian = Mat3;
+
+    // Nine places, none of them empty.
+    type Adjoint = Mat3;
 
     ghost group = { Group.group };
 

@@ -2,8 +2,9 @@
 use Rattle.std.specs.Prelude.{[], ◌∷◌, List, Result, Ok, Float}
 use Rattle.checks.specs.Checks.{and_then, check_unit_quaternion}
 use Rattle.checks.specs.declared.Refusal.{Refusal}
+use Rattle.linear.specs.Records.{matrix_values}
 use Rattle.linear.specs.declared.Mat3.{Mat3}
-use Rattle.manifold.specs.Answers.{answered, within, matrix_values}
+use Rattle.manifold.specs.Answers.{answered, within}
 use Rattle.manifold.specs.Operations.{between, left_between}
 use Rattle.manifold_blocks.specs.Calls as Generic
 use Rattle.so3.specs.Elements as Elements

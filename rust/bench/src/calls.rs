@@ -1,4 +1,4 @@
-//! exp, log and adjoint on blocks of values, each through an entry that is there for timing alone: the library's and, behind functions of
+//! exp, log and adjoint, in both its forms, on blocks of values, each through an entry that is there for timing alone: the library's and, behind functions of
 //! the same signature, the Rust source's own.
 //!
 //! The outcome is words: the refusal's number, two figures, how many values follow, their bits. docs/TESTING.md has the format.
@@ -14,11 +14,13 @@ extern "C" {
     pub fn sgal3_exp(tangent: *const f64, len: usize, out: *mut [u8; OUTCOME]) -> usize;
     pub fn sgal3_log(block: *const f64, len: usize, out: *mut [u8; OUTCOME]) -> usize;
     pub fn sgal3_adjoint(block: *const f64, len: usize, out: *mut [u8; OUTCOME]) -> usize;
+    /// Its place for an outcome is 344 bytes, less than is handed in here.
+    pub fn sgal3_short_adjoint(block: *const f64, len: usize, out: *mut [u8; OUTCOME]) -> usize;
 }
 
 /// # Safety
 ///
-/// The first pointer is that of as many values as the length says, and `out` is that of an outcome's place; as of the two below.
+/// The first pointer is that of as many values as the length says, and `out` is that of an outcome's place; as of those below.
 pub unsafe extern "C" fn source_exp(
     tangent: *const f64,
     len: usize,
@@ -50,6 +52,18 @@ pub unsafe extern "C" fn source_adjoint(
 ) -> usize {
     // SAFETY: the caller's promise.
     unsafe { adjoint(std::slice::from_raw_parts(block, len), &mut *out) }
+}
+
+/// # Safety
+///
+/// As of `source_exp`.
+pub unsafe extern "C" fn source_short_adjoint(
+    block: *const f64,
+    len: usize,
+    out: *mut [u8; OUTCOME],
+) -> usize {
+    // SAFETY: the caller's promise.
+    unsafe { short_adjoint(std::slice::from_raw_parts(block, len), &mut *out) }
 }
 
 fn exp(block: &[f64], out: &mut [u8; OUTCOME]) -> usize {
@@ -84,6 +98,20 @@ fn adjoint(block: &[f64], out: &mut [u8; OUTCOME]) -> usize {
     }
     let matrix = SGal3::from_param_slice(block).adjoint();
     let values: [f64; 100] = std::array::from_fn(|at| matrix[(at / 10, at % 10)]);
+    finish(&values, out)
+}
+
+/// The blocks that a short adjoint holds, of the whole matrix.
+fn short_adjoint(block: &[f64], out: &mut [u8; OUTCOME]) -> usize {
+    if let Some(number) = refused_element(block) {
+        return refuse(number, out);
+    }
+    let matrix = SGal3::from_param_slice(block).adjoint();
+    let values: [f64; 39] = std::array::from_fn(|at| match at {
+        0..27 => matrix[(at % 9 / 3, at / 9 * 3 + at % 3)],
+        27..36 => matrix[(3 + at % 9 / 3, 6 + at % 3)],
+        _ => matrix[(at - 36, 9)],
+    });
     finish(&values, out)
 }
 

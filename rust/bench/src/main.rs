@@ -222,14 +222,14 @@ fn steps(quaternion: fn(&mut Random) -> [f64; 4]) -> Vec<Block> {
     (0..CHAIN_MOST).map(step).collect()
 }
 
-/// One of exp, log and adjoint: the library's entry, the source's, and how a block for it is made.
+/// One of exp, log and adjoint, in both its forms: the library's entry, the source's, and how a block for it is made.
 struct Call {
     name: &'static str,
     entries: [calls::Entry; 2],
     block: fn(&mut Random) -> Vec<f64>,
 }
 
-const CALLS: [Call; 3] = [
+const CALLS: [Call; 4] = [
     Call {
         name: "exp",
         entries: [calls::sgal3_exp, calls::source_exp],
@@ -246,12 +246,19 @@ const CALLS: [Call; 3] = [
     Call {
         name: "adjoint",
         entries: [calls::sgal3_adjoint, calls::source_adjoint],
-        block: |g| {
-            let q = unit(g).to_vec();
-            [values(g, 3, 1.0), q, values(g, 3, 1.0), values(g, 1, 0.01)].concat()
-        },
+        block: unit_element,
+    },
+    Call {
+        name: "short adjoint",
+        entries: [calls::sgal3_short_adjoint, calls::source_short_adjoint],
+        block: unit_element,
     },
 ];
+
+fn unit_element(g: &mut Random) -> Vec<f64> {
+    let q = unit(g).to_vec();
+    [values(g, 3, 1.0), q, values(g, 3, 1.0), values(g, 1, 0.01)].concat()
+}
 
 fn values(g: &mut Random, count: usize, size: f64) -> Vec<f64> {
     (0..count).map(|_| size * g.small()).collect()

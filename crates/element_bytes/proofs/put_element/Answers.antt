@@ -2,7 +2,8 @@
 use mathlib.Core.List.{[], ◌∷◌, ◌++◌}
 use Rattle.checks.proofs.Finite.{finite-append}
 use Rattle.sgal3.specs.Elements.{coeffs}
-use Rattle.element_bytes.specs.Steps.{vector_values, quaternion_values}
+use Rattle.linear.specs.Records.{vector_values}
+use Rattle.element_bytes.specs.Steps.{quaternion_values}
 use Rattle.element_bytes.proofs.Stored.{element-sets}
 use Rattle.element_bytes.proofs.put_element.Goals as goal
 

@@ -16,7 +16,7 @@ returns c =
     record {
       returned = refused-count (λ (s : List Float). s) c.args.zeros c.args.r;
       stored =
-          rw (c.put_values.ensures, c.put_header.ensures, take-replicate c.args.zeros 100 rounded.zero c.requires)
+          rw (c.put_values.ensures, c.put_header.ensures, take-replicate c.args.zeros 100 rounded.zero c.requires.most)
           (after-header _ _ _ _ ∙ ap (sets _ 0) (sym (of-refused (λ (s : List Float). s) c.args.zeros c.args.r)));
       fits = search rules;
     }

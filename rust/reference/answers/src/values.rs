@@ -78,6 +78,30 @@ fn jacobian10<T>(to: To, fill: impl FnOnce(Option<&mut Matrix10<f64>>) -> T) -> 
     matrix(to, jacobian)
 }
 
+/// Where the blocks of an adjoint stand that a short one holds: row, column, how many columns.
+const BLOCKS: [[usize; 3]; 5] = [[0, 0, 3], [0, 3, 3], [0, 6, 3], [3, 6, 3], [0, 9, 1]];
+
+fn block(whole: &Matrix10<f64>, [row, column, columns]: [usize; 3]) -> Vec<f64> {
+    (0..3 * columns)
+        .map(|at| whole[(row + at / columns, column + at % columns)])
+        .collect()
+}
+
+/// These blocks, each by row; no, if any of the hundred places isn't finite.
+fn short(to: To, whole: Matrix10<f64>) -> bool {
+    for place in BLOCKS {
+        list(to, &block(&whole, place));
+    }
+    (0..100).all(|at| whole[(at / 10, at % 10)].is_finite())
+}
+
+/// The same of the Jacobian that a call fills in, over a matrix of zeros.
+fn short_jacobian<T>(to: To, fill: impl FnOnce(Option<&mut Matrix10<f64>>) -> T) -> bool {
+    let mut jacobian = SGal3::zero_jacobian();
+    fill(Some(&mut jacobian));
+    short(to, jacobian)
+}
+
 fn so3(to: To, rotation: SO3) -> bool {
     list(to, rotation.as_param_slice())
 }
@@ -256,11 +280,28 @@ const FUNCTIONS: &[(&str, Function)] = &[
     ("sgal3_plus", |x, to| sgal3(to, element(&x.first).plus(&sgal3_tangent(&x.second), None, None))),
     ("sgal3_plus_jacobian_self", |x, to| jacobian10(to, |j| element(&x.first).plus(&sgal3_tangent(&x.second), j, None))),
     ("sgal3_minus", |x, to| list(to, element(&x.first).minus(&element(&x.second), None, None).as_slice())),
+    // ---- SGal(3): adjoints without their zeros
+    ("sgal3_short_adjoint", |x, to| short(to, element(&x.first).adjoint())),
+    ("sgal3_short_compose_jacobian_self", |x, to| short_jacobian(to, |j| element(&x.first).compose(&element(&x.second), j, None))),
+    ("sgal3_short_right_plus_jacobian_self", |x, to| short_jacobian(to, |j| element(&x.first).right_plus(&sgal3_tangent(&x.second), j, None))),
 ];
 
 #[cfg(test)]
 mod tests {
     use super::*;
+    use requests::bench_list::adjoints;
+
+    #[test]
+    fn an_adjoint_overflows_in_one_block() {
+        for limit in adjoints() {
+            if limit.request.call().name == "sgal3_short_adjoint" {
+                let whole = element(&limit.request.first).adjoint();
+                let finite = |place: &_| block(&whole, *place).iter().all(|x| x.is_finite());
+                let overflow = BLOCKS.iter().filter(|place| !finite(place)).count();
+                assert_eq!(overflow, usize::from(limit.number == 5), "{}", limit.says);
+            }
+        }
+    }
 
     #[test]
     fn calls_and_functions_have_the_same_names() {

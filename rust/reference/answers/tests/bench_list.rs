@@ -1,7 +1,9 @@
 //! The reference says what the scope's bench list says, and what the orders of operations give.
 
 use answers::answer;
-use requests::bench_list::{accepted, limits, lines, orders, refused, request, tolerances, within};
+use requests::bench_list::{
+    accepted, adjoints, limits, lines, orders, refused, request, tolerances, within,
+};
 use requests::{Outcome, Refusal, Request};
 
 fn asked(request: &Request) -> Outcome {
@@ -29,6 +31,15 @@ fn orders_of_operations() {
 #[test]
 fn turns_at_the_limit() {
     for limit in limits() {
+        let outcome = asked(&limit.request);
+        assert_eq!(outcome.number, limit.number, "{}", limit.says);
+    }
+}
+
+/// A short adjoint is refused where the whole one is.
+#[test]
+fn adjoints_that_overflow() {
+    for limit in adjoints() {
         let outcome = asked(&limit.request);
         assert_eq!(outcome.number, limit.number, "{}", limit.says);
     }

@@ -1,8 +1,8 @@
 //! The scope's bench list, as requests with the outcomes that it states, written out by hand. Of its lines only the
 //! text that the program `chain` prints can't be asked here.
 //!
-//! Beside it: inputs at which another order of operations shows, turns at the limit, and tolerances at the ends of their
-//! range.
+//! Beside it: inputs at which another order of operations shows, turns at the limit, tolerances at the ends of their
+//! range, and adjoints that overflow.
 
 use crate::Refusal;
 use crate::calls::CALLS;
@@ -348,10 +348,59 @@ pub fn orders() -> Vec<Order> {
     order(says, "so3_inverse", &seventh, &[], 0, 0x3fd2_4924_9249_2492);
     let says = "the Jacobian adds at all nine places";
     order(says, "so3_left_jacobian", &[0.0; 3], &[], 1, 0);
+    let says = "a Jacobian that is a negated adjoint is opened before it is negated";
+    order(says, "sgal3_inverse_jacobian", &IDENTITY, &[], 30, 1 << 63);
+    order(
+        says,
+        "sgal3_between_jacobian_self",
+        &IDENTITY,
+        &IDENTITY,
+        30,
+        1 << 63,
+    );
     list
 }
 
-/// A turn at the limit, or a tolerance, with the number of its outcome.
+/// Adjoints of which one block alone overflows, others as large that are finite, and compose's Jacobian where the velocity of
+/// the inverse overflows; each in both forms.
+#[rustfmt::skip]
+pub fn adjoints() -> Vec<Limit> {
+    let mut list = Vec::new();
+    let mut adjoint = |says, element: [f64; 11], number| {
+        for name in ["sgal3_adjoint", "sgal3_short_adjoint"] {
+            let request = request(name, &element, &[]);
+            list.push(Limit { says, request, number });
+        }
+    };
+    const MOST: f64 = f64::MAX;
+    const FAR: [f64; 3] = [0.0, MOST, -MOST];
+    // a quarter turn about z, with a place of the rotation matrix above 1; an eighth about x
+    let quarter = [0.70710677929904, 0.0, 0.0, 0.7071067803230247];
+    let eighth = [0.9238795325112867, 0.3826834323650898, 0.0, 0.0];
+    let with = |q: [f64; 4], translation: [f64; 3], velocity: [f64; 3], time| {
+        let mut element = turned(q);
+        element[..3].copy_from_slice(&translation);
+        element[7..10].copy_from_slice(&velocity);
+        element[10] = time;
+        element
+    };
+    let none = [0.0; 3];
+    adjoint("-s R", with(quarter, none, none, MOST), 5);
+    adjoint("-s R, finite", with(eighth, none, none, MOST), 0);
+    adjoint("hat t R", with(eighth, FAR, none, 0.0), 5);
+    adjoint("s hat v", with(eighth, none, [1e200, 0.0, 0.0], 1e200), 5);
+    adjoint("hat v R", with(eighth, none, FAR, 0.0), 5);
+    let still = IDENTITY[3..7].try_into().expect("four values");
+    adjoint("hat t R and hat v R, finite", with(still, FAR, FAR, 0.0), 0);
+    for name in ["sgal3_compose_jacobian_self", "sgal3_short_compose_jacobian_self"] {
+        let request = request(name, &IDENTITY, &with(eighth, none, FAR, 0.0));
+        let says = "the velocity of the inverse";
+        list.push(Limit { says, request, number: 5 });
+    }
+    list
+}
+
+/// A turn at the limit, a tolerance or an adjoint, with the number of its outcome.
 pub struct Limit {
     pub says: &'static str,
     pub request: Request,

@@ -69,7 +69,7 @@ pub enum Answer {
     Coefficients,
     /// The eleven values of an element of which nothing was asked, so that any of them may be infinite or the NaN.
     AsGiven,
-    /// A matrix in a place of its own, by row: so many values.
+    /// A matrix in a place of its own, by row, or the blocks of one: so many values.
     Matrix(usize),
     /// A matrix of a call that never refuses.
     Generator(usize),
@@ -185,6 +185,7 @@ const SAFE: bool = false;
 const OVERFLOWS: bool = true;
 const MATRIX3: Answer = Answer::Matrix(9);
 const MATRIX10: Answer = Answer::Matrix(100);
+const ADJOINT: Answer = Answer::Matrix(39);
 
 const fn entry(
     number: u64,
@@ -318,6 +319,10 @@ pub const CALLS: &[Call] = &[
     entry(109, "sgal3_plus", B::Element, B::Sgal3Tangent, A::Element, Exp, OVERFLOWS),
     entry(110, "sgal3_plus_jacobian_self", B::Element, B::Sgal3Tangent, MATRIX10, Exp, OVERFLOWS),
     entry(111, "sgal3_minus", B::Element, B::Element, A::Sgal3Tangent, LogAndAngle(RightMinus), OVERFLOWS),
+    // ---- SGal(3): adjoints without their zeros
+    entry(112, "sgal3_short_adjoint", B::Element, B::Absent, ADJOINT, Untested, OVERFLOWS),
+    entry(113, "sgal3_short_compose_jacobian_self", B::Element, B::Element, ADJOINT, Untested, OVERFLOWS),
+    entry(114, "sgal3_short_right_plus_jacobian_self", B::Element, B::Sgal3Tangent, ADJOINT, Exp, OVERFLOWS),
 ];
 
 #[cfg(test)]
@@ -338,8 +343,8 @@ mod tests {
     #[test]
     fn which_calls_have_a_tolerance() {
         let count = |has: fn(&Call) -> bool| CALLS.iter().filter(|call| has(call)).count();
-        assert_eq!(count(Call::checks_norms), 70);
-        assert_eq!(count(Call::has_tolerance), 72);
+        assert_eq!(count(Call::checks_norms), 73);
+        assert_eq!(count(Call::has_tolerance), 75);
         assert_eq!(count(|call| call.has_tolerance() && call.has_index()), 0);
     }
 }

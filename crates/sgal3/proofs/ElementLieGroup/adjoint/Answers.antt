@@ -1,5 +1,4 @@
 use mathlib.Core.Path.{refl}
-use Rattle.sgal3_rows.specs.TenRows as TenRows
 use Rattle.sgal3.specs.Matrices as Matrices
 use Rattle.sgal3.specs.Elements as Elements
 use Rattle.linear.specs.Matrices as Linear
@@ -9,13 +8,12 @@ use Rattle.sgal3.proofs.ElementLieGroup.adjoint.Goals as goal
 
 pub returns : goal.returns
 returns c = rw (
-  c.by_blocks.ensures,
   c.mul.ensures,
-  c.mul-c.ensures,
+  c.mul-rho_theta.ensures,
   c.sub.ensures,
   c.scale.ensures,
   c.hat.ensures,
   c.hat-nu_skew.ensures,
-  c.scale-b.ensures,
-  c.rotation_matrix-r.ensures,
-) (unfold Matrices.adjoint TenRows.by_blocks Elements.rotation_matrix Linear.scale Linear.hat Linear.sub Linear.mul Law.adjoint Law.adjoint_at Law.rotation_matrix Rotation.rotation_matrix in refl)
+  c.scale-rho_nu.ensures,
+  c.rotation_matrix-rotation.ensures,
+) (unfold Matrices.adjoint Elements.rotation_matrix Linear.scale Linear.hat Linear.sub Linear.mul Law.adjoint Law.adjoint_at Law.rotation_matrix Rotation.rotation_matrix in refl)

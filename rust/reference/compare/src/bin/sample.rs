@@ -1,9 +1,9 @@
 //! sample REQUESTS OUTCOMES
 //!
 //! Writes a fixed sample of requests and the reference's outcomes into two files: the scope's bench list, inputs at
-//! which another order of operations shows, turns at the limit, tolerances at the ends of their range, and random requests
-//! such that every call has every outcome that it can have, several times, and is accepted with norms that 1e-6 refuses. It
-//! is the same on every run, and fails where an outcome is missing.
+//! which another order of operations shows, turns at the limit, tolerances at the ends of their range, adjoints that
+//! overflow, and random requests such that every call has every outcome that it can have, several times, and is accepted
+//! with norms that 1e-6 refuses. It is the same on every run, and fails where an outcome is missing.
 
 use compare::Counts;
 use requests::calls::{Block, Call};
@@ -70,7 +70,12 @@ impl Sample {
             answers::answer(&order.request, &mut outcome);
             sample.keep(&order.request, &outcome);
         }
-        for limit in bench_list::limits().iter().chain(&bench_list::tolerances()) {
+        let limits = [
+            bench_list::limits(),
+            bench_list::tolerances(),
+            bench_list::adjoints(),
+        ];
+        for limit in limits.iter().flatten() {
             answers::answer(&limit.request, &mut outcome);
             assert_eq!(outcome.number, limit.number, "{}", limit.says);
             sample.keep(&limit.request, &outcome);
