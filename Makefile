@@ -7,8 +7,10 @@
 #                   random, beside the Rust
 # make compare      every call, the C entries, the square root and the words of eight bytes beside Rust, on fresh random requests: SEED=..;
 #                   for the calls COUNT=.. or SECONDS=.., the entries get two million, the root one, the words 2^20 and 2^17 of each of
-#                   seven kinds; APEX_SRC=.. names the folder of the Rust source, if it is not ../shared
-# make bench        times: the square root, and the calls beside the Rust source and plain Rust
+#                   seven kinds; and `compare-turns`, a million requests with turns from 1/16 to 3 rad: each value within 2^-24 of the Rust source
+#                   over the machine's sines; APEX_SRC=.. names the folder of the Rust source, if it is not ../shared
+# make compare-small-turns  how far they are with smaller turns, on COUNT=.. requests: a table, no test
+# make bench        times: the square root beside the machine's, sine and cosine beside libm's, and the calls beside the Rust source and plain Rust
 # make bench-turns  times: the C entries at 1e-6 beside those of another archive, OLD=.., by turns in one process
 # make stack        how many bytes of stack the C entries take, and those that are there for timing alone
 # make vectors      the stored vectors of the square root anew
@@ -56,8 +58,9 @@ WITH_SOURCE = if ! [ -d "$$APEX_SRC" ]; then $(call WITHOUT,Rust source (APEX_SR
 TWO_AT_A_TIME = $(MAKE) --no-print-directory -j2 --output-sync=target IN_ORDER=
 
 .PHONY: run test test-tools test-sources test-built try try-requests toolchain-check readme-check test-rust test-c test-install install install-files \
-	vectors-check cases-check sample-check test-reference compare compare-sqrt compare-words compare-calls compare-entries valgrind-words valgrind-entries conformance \
-	bench bench-sqrt bench-handset bench-turns stack sgal3-lib vectors cases sample float-lib words-lib
+	vectors-check cases-check sample-check test-reference compare compare-sqrt compare-words compare-calls compare-turns compare-small-turns \
+	compare-entries valgrind-words valgrind-entries conformance bench bench-float bench-handset bench-turns stack sgal3-lib vectors cases sample \
+	float-lib words-lib
 IN_ORDER = yes
 ifdef IN_ORDER
 .NOTPARALLEL:
@@ -188,7 +191,7 @@ conformance: toolchain-check
 words-lib: toolchain-check
 	@$(call STATIC_LIBRARY,words_export)
 
-compare: compare-sqrt compare-words compare-entries compare-calls
+compare: compare-sqrt compare-words compare-entries compare-calls compare-turns
 
 compare-sqrt: float-lib
 	@$(call WITH_CARGO,$(CARGO) run --release $(FLOAT) --bin sqrt_compare -- --seed $(SEED) --count 1000000)
@@ -199,6 +202,12 @@ compare-words: words-lib
 compare-calls: conformance
 	@$(call WITH_SOURCE,$(CARGO) run $(REFERENCE) --bin compare -- crates/conformance/out/conformance --seed $(SEED) \
 	    $(if $(SECONDS),--seconds $(SECONDS),--count $(COUNT)))
+
+compare-turns: conformance
+	@$(call WITH_SOURCE,$(CARGO) run $(REFERENCE) --bin agree -- crates/conformance/out/conformance --seed $(SEED) --count 1000000)
+
+compare-small-turns: conformance
+	@$(call WITH_SOURCE,$(CARGO) run $(REFERENCE) --bin agree -- crates/conformance/out/conformance --seed $(SEED) --count $(COUNT) --small)
 
 compare-entries: lib
 	@$(call WITH_SOURCE,$(CARGO) run $(REFERENCE) --bin entries -- --seed $(SEED) --count 2000000)
@@ -214,10 +223,10 @@ valgrind-entries: lib
 	    $(call WITH_SOURCE,$(CARGO) build $(REFERENCE) --bin entries && \
 	    valgrind --quiet --leak-check=full --error-exitcode=1 target/cargo/release/entries --seed $(SEED) --count 20000); fi
 
-bench: bench-sqrt bench-handset
+bench: bench-float bench-handset
 
-bench-sqrt: float-lib
-	@$(CARGO) run --release $(FLOAT) --bin sqrt_bench
+bench-float: float-lib
+	@$(CARGO) run --release $(FLOAT) --bin float_bench
 
 bench-handset: lib sgal3-lib
 	@$(CARGO) run --release --target-dir target/cargo --manifest-path rust/bench/Cargo.toml

@@ -6,7 +6,7 @@ fn main() {
     });
     for (program, library) in [
         ("sqrt_compare", "float_export"),
-        ("sqrt_bench", "float_export"),
+        ("float_bench", "float_export"),
         ("words_compare", "words_export"),
     ] {
         let library = format!("{folder}/lib{library}.a");

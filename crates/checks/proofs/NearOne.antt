@@ -18,7 +18,7 @@ use Rattle.whole_roots.proofs.Squares.{square-lt}
 use Rattle.float.specs.Root.{square_root}
 use Rattle.rounding.specs.Number.{Number, one, limit, plus_part, minus_part}
 use Rattle.rounding.specs.Error.{Within}
-use Rattle.rounding.proofs.Laws.{plus-parts, minus-parts, one-pos, one-limit, add-number, add-sign, add-error-plus, sub_number, sub_parts, sqrt-root, root-squared, lt-is, le_is}
+use Rattle.rounding.proofs.Laws.{plus-parts, minus-parts, zero64, zero-number, zero-sign, zero-count, magnitude-number, magnitude-sign, magnitude-count, one-pos, one-limit, add-number, add-sign, add-error-plus, sub_number, sub_parts, sqrt-root, root-squared, lt-plain, le_is}
 use Rattle.checks.specs.Checks.{passed, permitted, check_tolerance, check_norm}
 
 -- ---- a number above zero, and one between two others
@@ -111,14 +111,6 @@ pub most64-count : 2 ^ 10 * count most64 ≡ one
 unfolding of_bits count one
 most64-count = refl
 
-zero64 : Number (of_bits binary64 0)
-unfolding of_bits fits
-zero64 = record { is_binary64 = tt; is_finite = tt }
-
-zero64-parts : (plus_part (of_bits binary64 0) ≡ 0) × (minus_part (of_bits binary64 0) ≡ 0)
-unfolding of_bits plus_part minus_part count negative
-zero64-parts = (refl, refl)
-
 -- ---- a tolerance from 2 ^ -40 to 1 / 1024, and what is asked of the constants that bound it: each is a test that computes
 record Moderate (t : Float) : Type 0 where
   positive : Positive t
@@ -151,20 +143,11 @@ small {t} A = over (count t) (count most64) one A.most most64-count
 is-permitted : {t : Float} → Moderate t → permitted t ≡ true
 unfolding permitted
 is-permitted {t} A =
-    let p = plus-parts t A.positive.sign in
-    let q = plus-parts most64 most64-positive.sign in
-    let z = zero64-parts in
-    let above : lt (of_bits binary64 0) t ≡ true =
-    lt-is zero64 A.positive.number ∙ rw (p.0, p.1, z.0, z.1) (is_true (ltb (0 + 0) (count t + 0)) (lt→ltb (0 + 0) (count t + 0) (more (count t) A.positive.some))) in
-    let under : lt most64 t ≡ false =
-    lt-is most64-positive.number A.positive.number ∙ rw (p.0, p.1, q.0, q.1) (is_false (ltb (count most64 + 0) (count t + 0)) (le→nltb (count most64 + 0) (count t + 0) (less (count t) (count most64) A.most))) in
-    rw (is_true (finite t) A.positive.number.is_finite, above, under)
-  where
-    more : (c : ℕ) → 0 < c → 0 + 0 < c + 0
-    more c h = omega arith
-
-    less : (c d : ℕ) → c ≤ d → c + 0 ≤ d + 0
-    less c d h = omega arith
+    let P = A.positive in
+    let M = most64-positive in
+    let above : lt zero64 t ≡ true = lt-plain zero-number P.number zero-sign P.sign ∙ rw zero-count (is_true (ltb 0 (count t)) (lt→ltb 0 (count t) P.some)) in
+    let under : lt most64 t ≡ false = lt-plain M.number P.number M.sign P.sign ∙ is_false (ltb (count most64) (count t)) (le→nltb (count most64) (count t) A.most) in
+    rw (is_true (finite t) P.number.is_finite, above, under)
 
 -- ---- over counts: o is 1, t the tolerance, s the squared norm, r its root, d the magnitude of the difference of r and 1
 -- what a rounding changes, c / 2 ^ 53, is at most t / 2 ^ 10
@@ -303,37 +286,9 @@ near-one {r} {t} R A h k = record { number = D; size = go (negative d) refl }
     go false e = let p = plus-parts d e in difference-over (count r) one (count d) (count t) (rw (p.0, p.1) at error.over) h
     go true e = let p = minus-parts d e in difference-under (count r) one (count d) (count t) (rw (p.0, p.1) at error.under) k
 
--- ---- the magnitude of a number
-pub magnitude-number : {x : Float} → Number x → Number (abs x)
-unfolding abs fits
-magnitude-number {x} X = go x X
-  where
-    go : (x : Float) → Number x → Number (abs x)
-    go nan X = X
-    go (inf s) X = absurd X.is_finite
-    go (fin s m e) X = record { is_binary64 = X.is_binary64; is_finite = tt }
-
-pub magnitude-sign : (x : Float) → negative (abs x) ≡ false
-unfolding abs negative
-magnitude-sign nan = refl
-magnitude-sign (inf s) = refl
-magnitude-sign (fin s m e) = refl
-
-pub magnitude-count : (x : Float) → count (abs x) ≡ count x
-unfolding abs count
-magnitude-count nan = refl
-magnitude-count (inf s) = refl
-magnitude-count (fin s m e) = refl
-
--- a tolerance is not below the magnitude of a number that is no larger
+-- ---- a tolerance is not below the magnitude of a number that is no larger
 not-below : {t d : Float} → Positive t → Number d → count d ≤ count t → lt t (abs d) ≡ false
-not-below {t} {d} A D h =
-    let p = plus-parts t A.sign in
-    let q = plus-parts (abs d) (magnitude-sign d) in
-    lt-is A.number (magnitude-number D) ∙ rw (p.0, p.1, q.0, q.1, magnitude-count d) (is_false (ltb (count t + 0) (count d + 0)) (le→nltb (count t + 0) (count d + 0) (less (count t) (count d) h)))
-  where
-    less : (t d : ℕ) → d ≤ t → d + 0 ≤ t + 0
-    less t d h = omega arith
+not-below {t} {d} A D h = lt-plain A.number (magnitude-number D) A.sign (magnitude-sign d) ∙ rw (magnitude-count d) (is_false (ltb (count t) (count d)) (le→nltb (count t) (count d) h))
 
 -- ---- the check
 passes : {s t : Float} → Moderate t → Between (sub binary64 one64 t) (add binary64 one64 t) s → check_norm (square_root s) t ≡ passed

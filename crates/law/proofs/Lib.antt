@@ -2,6 +2,7 @@ pub mod Written
 pub mod Rotation
 pub mod Series
 pub mod Exponential
+pub mod ClosedForms
 pub mod Group
 pub mod Adjoint
 pub mod Filled

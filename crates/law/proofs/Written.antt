@@ -124,8 +124,8 @@ module _ {A : Type 0} (𝓡 : Ring A) (xs : List A) where
 
   -- where a ≡ b is given
   module _ (a b : Expr) (e : value a ≡ value b) where
-    value_by : (c l r : Expr) → T (same_by a b c l r) → value l ≡ value r
-    value_by c l r h = solve-by 𝓡 (λ i. get_or xs i 𝓡.zero) a b c l r e h
+    pub solve_value_by : (c l r : Expr) → T (same_by a b c l r) → value l ≡ value r
+    solve_value_by c l r h = solve-by 𝓡 (λ i. get_or xs i 𝓡.zero) a b c l r e h
 
     row_by : (c l r : List Expr) → T (agree a b c l r) → row_value l ≡ row_value r
     unfolding agree
@@ -134,11 +134,11 @@ module _ {A : Type 0} (𝓡 : Ring A) (xs : List A) where
     row_by c (x ∷ l) [] h = absurd h
     row_by [] (x ∷ l) (y ∷ r) h =
         ap₂ {C = List A} (λ s t. s ∷ t)
-        (value_by zer x y (and_l (same_by a b zer x y) (agree a b [] l r) h))
+        (solve_value_by zer x y (and_l (same_by a b zer x y) (agree a b [] l r) h))
         (row_by [] l r (and_r (same_by a b zer x y) (agree a b [] l r) h))
     row_by (d ∷ c) (x ∷ l) (y ∷ r) h =
         ap₂ {C = List A} (λ s t. s ∷ t)
-        (value_by d x y (and_l (same_by a b d x y) (agree a b c l r) h))
+        (solve_value_by d x y (and_l (same_by a b d x y) (agree a b c l r) h))
         (row_by c l r (and_r (same_by a b d x y) (agree a b c l r) h))
 
     pub solve_rows_by : (c l r : List (List Expr)) → T (agrees a b c l r) → rows_value l ≡ rows_value r

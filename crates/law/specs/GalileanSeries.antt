@@ -1,4 +1,4 @@
--- SGal(3): exp and log where the angle is small, in the words of sgal3.rs: the series branch. Definitions only.
+-- SGal(3): exp and log by given matrices, M by given coefficients, and the three where the angle is small, in the words of sgal3.rs. Definitions only.
 use Rattle.law.specs.Arithmetic.{Arithmetic}
 use Rattle.law.specs.Vector as Vector
 use Rattle.law.specs.Vector.{Vector}

@@ -7,6 +7,7 @@ pub mod Rotation
 pub mod Series
 pub mod Galilean
 pub mod GalileanSeries
+pub mod ClosedForms
 pub mod Filled
 pub mod Exact
 pub mod Rounded

@@ -1,5 +1,5 @@
 -- Worked values of the formulas at the rounded arithmetic, as bit patterns: inputs at which another order of operations gives other bits.
--- `orders` and `series-orders` (proofs/Orders.antt) prove the two lists.
+-- `orders`, `series-orders` and `closed_form-orders` (proofs/Orders.antt) prove the three lists.
 use Rattle.std.specs.Prelude.{ℕ, List, [], ◌∷◌, map, take, get_or, Float}
 use Rattle.std.specs.Float.Ieee.{of_bits, to_bits}
 use Rattle.std.specs.Float.{binary64}
@@ -14,6 +14,8 @@ use Rattle.law.specs.Rotation as Rotation
 use Rattle.law.specs.Galilean as Galilean
 use Rattle.law.specs.Galilean.{Element, Tangent}
 use Rattle.law.specs.GalileanSeries as GalileanSeries
+use Rattle.law.specs.ClosedForms as ClosedForms
+use Rattle.law.specs.ClosedForms.{Angle}
 use Rattle.law.specs.Rounded.{rounded, divisors}
 use Rattle.law.specs.Patterns.{zero, minus_zero, half, minus_half, one, minus_one, two, minus_two, three, minus_three, four, minus_four, five, six, eight, nine, ten}
 
@@ -62,6 +64,9 @@ element t q v s = record { translation = t; rotation = q; velocity = v; time = o
 
 abbrev tangent : Vector Float → Vector Float → Vector Float → ℕ → Tangent Float
 tangent ρ ν θ s = record { rho = ρ; nu = ν; theta = θ; s = of_bits binary64 s }
+
+abbrev angle : ℕ → ℕ → ℕ → ℕ → Angle Float
+angle t w s c = record { squared = of_bits binary64 t; angle = of_bits binary64 w; sine = of_bits binary64 s; cosine = of_bits binary64 c }
 
 -- the nearest to 1/3
 abbrev third : ℕ
@@ -159,6 +164,24 @@ q10·14·17·16 = quaternion 0x3fd6_11a7_b961_1a7c 0x3fde_e584_69ee_5847 0x3fe2_
 -- (3, 1, 0) / 7 * 2 ^ -18: inside the series branch
 abbrev small_turn : Vector Float
 small_turn = vector 0x3ebb_6db6_db6d_b6db 0x3ea2_4924_9249_2492 zero
+
+-- (3, 4, 2) / 7, and its norm as an angle
+abbrev turn342 : Vector Float
+turn342 = vector 0x3fdb_6db6_db6d_b6db 0x3fe2_4924_9249_2492 0x3fd2_4924_9249_2492
+
+abbrev angle342 : Angle Float
+angle342 = angle 0x3fe2_f053_9782_9cbb 0x3fe8_9e2e_730a_1da8 0x3fe6_42ad_19e1_7411 0x3fe6_fd0f_da32_0966
+
+-- (3, 5, 3) / 5, and its norm as an angle
+abbrev turn353 : Vector Float
+turn353 = vector 0x3fe3_3333_3333_3333 one 0x3fe3_3333_3333_3333
+
+abbrev angle353 : Angle Float
+angle353 = angle 0x3ffb_851e_b851_eb84 0x3ff4_fbda_8817_b44d 0x3fee_ee1e_f042_2c24 0x3fd0_690f_5807_a00e
+
+-- of which the square, 1.25 * 2 ^ -537, is so small that its own square is below the normal numbers
+abbrev low_angle : Angle Float
+low_angle = angle 0x1e64_0000_0000_0000 one zero 0x3fef_ffff_ffff_ffff
 
 unfoldable pub worked_orders : List Worked
 worked_orders =
@@ -396,4 +419,41 @@ worked_series =
     (0x3ff8_0000_4924_924b ∷ 0xbff8_0000_db6d_b6dc ∷ 0x3ec6_db6d_b6d4_4628
     ∷ 0x3fef_fffe_db6d_b6db ∷ 0x4008_0000_db6d_b6db ∷ 0x3fff_fffd_b6db_6db7
     ∷ 0x3ebb_6db6_db6d_b6db ∷ 0x3ea2_4924_9249_2492 ∷ zero ∷ three ∷ [])
+    ∷ []
+
+-- exp, the left Jacobian and M where the angle is not small
+unfoldable pub worked_closed_forms : List Worked
+worked_closed_forms =
+    -- exp: h·(s/n), and not (h·s)/n or (h/n)·s, which are one lower in each value of the vector
+    of quaternion_values (ClosedForms.exp rounded angle342 turn342)
+    (0x3fe6_fd0f_da32_0966 ∷ 0x3fd8_cd4e_3bae_51b2 ∷ 0x3fe0_88de_d274_3677 ∷ 0x3fd0_88de_d274_3677 ∷ [])
+    -- and it is not normalised, which would put each value one higher
+    ∷ of quaternion_values (ClosedForms.exp rounded angle353 turn353)
+    (0x3fd0_690f_5807_a00e ∷ 0x3fdc_4d03_3da4_400b ∷ 0x3fe7_9582_b35e_355f ∷ 0x3fdc_4d03_3da4_400b ∷ [])
+    -- left Jacobian: (b·hat)·hat: (1,1) is ..7159 if b scales the product, and (0,1) ..92ce if it scales the second factor. (0,0) is ..e975 if b is divided by w³ and not by w²·w,
+    -- and (0,2) ..0d08 if a is divided by w·w. The order of the two sums never shows: in each place I or hat has a zero
+    ∷ of matrix_values (ClosedForms.left_jacobian rounded angle342 turn342)
+    (0x3fed_e2fb_449d_e974 ∷ 0xbfb8_a8aa_4c5b_92cf ∷ 0x3fd2_ab63_5854_0d0a
+    ∷ 0x3fc6_7938_a99e_359f ∷ 0x3fee_a056_8633_7158 ∷ 0xbfc6_b889_3008_db32
+    ∷ 0xbfd0_222a_7777_f1fc ∷ 0x3fcd_7bcb_87a9_2356 ∷ 0x3fed_5bba_15c5_63d2 ∷ [])
+    -- (0,0) is ..361c if b is divided by w² and by w in turn
+    ∷ of matrix_values (ClosedForms.left_jacobian rounded angle353 turn353)
+    (0x3fe9_5873_406e_361b ∷ 0xbfc5_7576_162a_c8f2 ∷ 0x3fdf_30fb_e6f1_e5e9
+    ∷ 0x3fd6_78fe_b780_140d ∷ 0x3fec_7a1e_e5df_fe87 ∷ 0xbfc5_7576_162a_c8f2
+    ∷ 0xbfd8_2539_b2b1_e2f7 ∷ 0x3fd6_78fe_b780_140d ∷ 0x3fe9_5873_406e_361b ∷ [])
+    -- M: b·(hat·hat): (0,0) is ..ff67 if b scales a factor, and ..ff69 if 2·cos w - 2 is formed first; (0,2) is ..fd38 if a is divided by w²·w and not by w³
+    ∷ of matrix_values (ClosedForms.s_nu_coupling rounded angle342 turn342)
+    (0x3fde_eecc_bf99_ff68 ∷ 0xbfa2_8c0b_ca60_f9a2 ∷ 0x3fb8_f33f_4cc4_fd35
+    ∷ 0x3fac_cac4_9b00_ff5a ∷ 0x3fdf_4e6b_7c8a_7f9d ∷ 0xbfb0_0b6f_5894_bc6b
+    ∷ 0xbfb6_6391_189c_fbc7 ∷ 0x3fb3_75ac_f374_be53 ∷ 0x3fde_aa7f_ef80_7f41 ∷ [])
+    -- (0,0) is ..a8b8 if w² - 2 is formed first, and (0,1) ..97f0 if b is divided by 2·w² and by w² in turn
+    ∷ of matrix_values (ClosedForms.s_nu_coupling rounded angle353 turn353)
+    (0x3fdc_9332_f54c_a8b7 ∷ 0xbfb1_713b_a04d_97ef ∷ 0x3fc5_62a1_1afc_ad2f
+    ∷ 0x3fbd_87d3_115d_265b ∷ 0x3fde_2fcf_af0a_7770 ∷ 0xbfb1_713b_a04d_97ef
+    ∷ 0xbfc1_c240_7911_9c0f ∷ 0x3fbd_87d3_115d_265b ∷ 0x3fdc_9332_f54c_a8b7 ∷ [])
+    -- (2·w²)·w², which is 3 of the smallest number above zero, and not 2·(w²·w²), which is 4: they differ below the normal numbers alone
+    ∷ of matrix_values (ClosedForms.s_nu_coupling rounded low_angle (vector one zero zero))
+    (half ∷ zero ∷ zero
+    ∷ zero ∷ 0x7fb5_5555_5555_5555 ∷ minus_one
+    ∷ zero ∷ one ∷ 0x7fb5_5555_5555_5555 ∷ [])
     ∷ []

@@ -35,9 +35,6 @@ module _ {A : Type 0} (o : Arithmetic A) where
   unfoldable pub left_jacobian_inv : Vector A → Matrix A
   left_jacobian_inv θ = minus_hat half θ
 
-  -- the right ones are the transposes
-  unfoldable pub right_jacobian : Vector A → Matrix A
-  right_jacobian θ = Matrix.transpose o (left_jacobian θ)
-
+  -- the right one is its transpose
   unfoldable pub right_jacobian_inv : Vector A → Matrix A
   right_jacobian_inv θ = Matrix.transpose o (left_jacobian_inv θ)

@@ -1,4 +1,4 @@
--- What a call answers: values that are all finite, or the refusal; and where a series is left. Definitions only.
+-- What a call answers: values that are all finite, or the refusal; where a series is left, and where a turn is too large. Definitions only.
 use Rattle.std.specs.Prelude.{ℕ, ◌+◌, Bool, cond, List, get_or, Result, Ok, Err, Float}
 use Rattle.std.specs.Float.{nan, binary64}
 use Rattle.std.specs.Float.Ieee.{of_bits, lt}
@@ -24,6 +24,10 @@ answered values a = cond (all_finite (values a)) (Ok a) (Err Overflow)
 unfoldable pub leaves_series : Float → Bool
 leaves_series squared = lt (of_bits binary64 0x3ddb_7cdf_d9d7_bdbb) squared
 
--- the turn: the refusal where a series is left
+-- a squared angle above 9 is too large
+unfoldable pub turn_too_large : Float → Bool
+turn_too_large squared = lt (of_bits binary64 0x4022_0000_0000_0000) squared
+
+-- the turn test: 4 where a call can't take the turn, or the number
 unfoldable pub within : Bool → Check
-within leaves = cond leaves (Err Turn) passed
+within refused = cond refused (Err Turn) passed

@@ -36,8 +36,8 @@ pub record Tangents (G T J A : Type 0) : Type 0 where
   pub tangent_of : List Float → T
   pub zero : T
   pub exp : T → G
-  -- whether exp would leave its series
-  pub leaves_series : T → Bool
+  -- whether the calls of exp and plus refuse it
+  pub turn_too_large : T → Bool
   pub hat : T → A
   -- of place i of a tangent
   pub generator : ℕ → A

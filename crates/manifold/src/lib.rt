@@ -123,7 +123,7 @@ pub fn answered<A: Values>(a: A) -> Result<A, Refusal>
     }
 }
 
-// ---- Where a series is left
+// ---- Where a series is left, and where a turn is too large
 
 // Above the limit, SMALL_ANGLE_THRESHOLD of lib.rs, a series is left.
 #[tactic(auto, unfolding(crate::specs::Answers::leaves_series))]
@@ -133,12 +133,20 @@ pub fn leaves_series(squared: f64) -> bool
     squared > 1e-10
 }
 
-// The turn: refused where a series is left.
-#[tactic(auto, unfolding(crate::specs::Answers::within))]
-pub fn within(leaves: bool) -> Result<(), Refusal>
-    ensures { result ≡ Answers.within leaves }
+// Whether exp and plus refuse an angle with this square.
+#[tactic(auto, unfolding(crate::specs::Answers::turn_too_large))]
+pub fn turn_too_large(squared: f64) -> bool
+    ensures { result ≡ Answers.turn_too_large squared }
 {
-    if leaves { Err(Refusal::Turn) } else { Ok(()) }
+    squared > 9.0
+}
+
+// The turn test: 4 where a call can't take the turn, or the number.
+#[tactic(auto, unfolding(crate::specs::Answers::within))]
+pub fn within(refused: bool) -> Result<(), Refusal>
+    ensures { result ≡ Answers.within refused }
+{
+    if refused { Err(Refusal::Turn) } else { Ok(()) }
 }
 
 // ---- The groups
@@ -265,8 +273,9 @@ pub trait Tangent: Values {
     fn exp(self) -> Self::Group
         ensures { result ≡ tangents.exp self };
 
-    fn leaves_series(self) -> bool
-        ensures { result ≡ tangents.leaves_series self };
+    // Whether exp and plus refuse it.
+    fn turn_too_large(self) -> bool
+        ensures { result ≡ tangents.turn_too_large self };
 
     fn hat(self) -> Self::LieAlgebra
         ensures { result ≡ tangents.hat self };

@@ -114,9 +114,9 @@ module _ {G T J A : Type 0} (h : Tangents G T J A) where
   abbrev pub two_tangents : List Float → List Float → Result (T × T) Refusal
   two_tangents left right = both (tangent left) (tangent right)
 
-  -- refused where exp would leave its series
+  -- refused where the turn is too large
   unfoldable pub within_exp : List Float → Result T Refusal
-  within_exp block = and_then (tangent block) (λ t. and_then (within (h.leaves_series t)) (λ _. Ok t))
+  within_exp block = and_then (tangent block) (λ t. and_then (within (h.turn_too_large t)) (λ _. Ok t))
 
   unfoldable pub exp : (G → List Float) → List Float → Result G Refusal
   exp values block = and_then (within_exp block) (λ t. answered values (h.exp t))
@@ -137,12 +137,12 @@ module _ {G T J A : Type 0} (h : Tangents G T J A) where
   normalized_tangent values block = and_then (tangent block) (λ t. answered values (h.normalized t))
 
 module _ {G T J P D A : Type 0} (g : Group G T J P D) (h : Tangents G T J A) where
-  -- ---- plus: refused where the exp of its tangent would leave its series
+  -- ---- plus: refused where the turn of its tangent is too large
   abbrev pub element_and_tangent : List Float → List Float → Float → Result (G × T) Refusal
   element_and_tangent block s tolerance = both (element g block tolerance) (tangent h s)
 
   unfoldable pub within_plus : List Float → List Float → Float → Result (G × T) Refusal
-  within_plus block s tolerance = and_then (element_and_tangent block s tolerance) (λ p. and_then (within (h.leaves_series p.1)) (λ _. Ok p))
+  within_plus block s tolerance = and_then (element_and_tangent block s tolerance) (λ p. and_then (within (h.turn_too_large p.1)) (λ _. Ok p))
 
   unfoldable pub right_plus : (G → List Float) → List Float → List Float → Float → Result G Refusal
   right_plus values block s tolerance = and_then (within_plus block s tolerance) (λ p. answered values (Operations.right_plus g h p.0 p.1))

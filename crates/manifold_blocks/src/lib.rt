@@ -234,13 +234,13 @@ pub fn tangents<T: Tangent>(left: &[f64], right: &[f64]) -> Result<(T, T), Refus
     checks::both(T::try_from_slice(left), T::try_from_slice(right))
 }
 
-// The tangent, if exp stays in its series there.
+// The tangent, if exp does not refuse its turn.
 #[tactic(auto, unfolding(crate::specs::Calls::within_exp))]
 pub fn within_exp<T: Tangent>(tangent: &[f64]) -> Result<T, Refusal>
     ensures { result ≡ Calls.within_exp T.tangents tangent.now }
 {
     let t = T::try_from_slice(tangent)?;
-    manifold::within(t.leaves_series())?;
+    manifold::within(t.turn_too_large())?;
     Ok(t)
 }
 
@@ -386,7 +386,7 @@ pub fn minus<G: LieGroup>(
     right_minus::<G>(left, right, tolerance)
 }
 
-// ---- Plus: it refuses 4 where the exp of its tangent would leave its series
+// ---- Plus: it refuses 4 where exp refuses its tangent
 
 pub fn element_and_tangent<G: LieGroup>(
     block: &[f64],
@@ -401,7 +401,7 @@ pub fn element_and_tangent<G: LieGroup>(
     )
 }
 
-// The element and the tangent, if exp stays in its series.
+// The element and the tangent, if exp does not refuse the turn.
 #[tactic(auto, unfolding(crate::specs::Calls::within_plus))]
 pub fn within_plus<G: LieGroup>(
     block: &[f64],
@@ -411,7 +411,7 @@ pub fn within_plus<G: LieGroup>(
     ensures { result ≡ Calls.within_plus G.group G.TangentVector.tangents block.now tangent.now tolerance }
 {
     let checked = element_and_tangent::<G>(block, tangent, tolerance)?;
-    manifold::within(checked.1.leaves_series())?;
+    manifold::within(checked.1.turn_too_large())?;
     Ok(checked)
 }
 

@@ -1,5 +1,5 @@
 -- What a request on rotations is answered, as bytes: the calls by their numbers, none where there is no such call. Definitions only.
-use Rattle.std.specs.Prelude.{ℕ, cond, List, eqb, ltb, length, get_or, Option, Some, None}
+use Rattle.std.specs.Prelude.{ℕ, cond, List, [], ◌∷◌, eqb, ltb, length, get_or, Option, Some, None}
 use Rattle.std.specs.Float.{nan}
 use Rattle.linear.specs.Records.{vector_values, matrix_values}
 use Rattle.linear.specs.Matrices as Matrices
@@ -105,6 +105,15 @@ rotation_between_call r =
     (cond (eqb r.call 60) (Some (Outcomes.of matrix_values 9 (Rotations.right_minus_jacobian_other r.left.now r.right.now (Outcomes.tolerance r))))
     None))))))))
 
+-- sine and cosine, of one value
+unfoldable pub sine_call : Request → Option (List ℕ)
+sine_call r =
+    cond (eqb (length r.left.now) 1)
+    (cond (eqb r.call 61) (Some (Outcomes.of (λ x. x ∷ []) 0 (Rotations.sine (get_or r.left.now 0 nan))))
+    (cond (eqb r.call 62) (Some (Outcomes.of (λ x. x ∷ []) 0 (Rotations.cosine (get_or r.left.now 0 nan))))
+    None))
+    None
+
 unfoldable pub answer : Request → Option (List ℕ)
 answer r =
     cond (ltb r.call 18) (rotation_call r)
@@ -113,4 +122,5 @@ answer r =
     (cond (ltb r.call 40) (rotation_tangent_call r)
     (cond (ltb r.call 46) (rotation_plus_call r)
     (cond (ltb r.call 52) (rotation_minus_call r)
-    (rotation_between_call r))))))
+    (cond (ltb r.call 61) (rotation_between_call r)
+    (sine_call r)))))))

@@ -1,4 +1,4 @@
-// A request on rotations answered: the calls 10 to 60 by their numbers, and the outcome of each as bytes. None where there is no such call.
+// A request on rotations, or for a sine or a cosine, answered: the calls 10 to 62 by their numbers, and the outcome of each as bytes. None where there is no such call.
 // The numbers are the format's: an enum or a table of the calls would list them a second time. In parts, since each arm is a case of its function's
 // proof. The calls of the other group have numbers of their own, so an arm that differs from one there in its type alone can't stand once for both.
 #![tactic(auto)]
@@ -235,6 +235,22 @@ fn rotation_between_call(r: Request<'_>, out: &mut [u8; 832]) -> Option<usize>
     }
 }
 
+// Sine and cosine, of one value.
+#[tactic(auto, unfolding(crate::specs::Requests::sine_call, outcomes::specs::Outcomes::Answered))]
+fn sine_call(r: Request<'_>, out: &mut [u8; 832]) -> Option<usize>
+    ensures { Outcomes.Answered result out.old out.new (Requests.sine_call r.entry) }
+{
+    let x = r.left;
+    if x.len() != 1 {
+        return None;
+    }
+    match r.call {
+        61 => Some(outcomes::put(out, so3_blocks::sine(x[0]))),
+        62 => Some(outcomes::put(out, so3_blocks::cosine(x[0]))),
+        _ => None,
+    }
+}
+
 // Of four values: the one call that takes no block.
 #[tactic(auto, unfolding(crate::specs::Requests::quaternion_call, outcomes::specs::Outcomes::Answered))]
 fn quaternion_call(r: Request<'_>, out: &mut [u8; 832]) -> Option<usize>
@@ -273,5 +289,8 @@ pub fn answer(r: Request<'_>, out: &mut [u8; 832]) -> Option<usize>
     if r.call < 52 {
         return rotation_minus_call(r, out);
     }
-    rotation_between_call(r, out)
+    if r.call < 61 {
+        return rotation_between_call(r, out);
+    }
+    sine_call(r, out)
 }

@@ -8,11 +8,11 @@ use lib.Dec.{T, ltb, eqb, ltb→lt, nltb→le, lt→ltb, eqb-suc-zero}
 use lib.Arith.{le→nltb}
 use lib.Pow.{pow_pos}
 use lib.IntN.{ℤ, pos, nat_abs}
-use lib.Ieee.{Float, nan, inf, fin, binary64, unlike, up, down, round, neg, sum, add, mul, div, fits}
+use lib.Ieee.{Float, nan, inf, fin, binary64, of_bits, unlike, up, down, round, neg, sum, add, mul, div, fits}
 use lib.Ieee.Bits.{is_true, is_false}
 use lib.Ieee.Fits.{up_pos, down_pos, neg-fits}
 use lib.Ieee.Scale.{finite, round_same}
-use Rattle.float.specs.Exact.{shift, count, negative, signed, exact}
+use Rattle.float.specs.Exact.{shift, count, negative, signed, exact, abs}
 use Rattle.float.proofs.Counts.{fraction}
 use Rattle.rounding.specs.Number.{Number, plus_part, minus_part}
 use Rattle.rounding.proofs.Integers.{above, below, abs_neg}
@@ -108,6 +108,44 @@ neg-parts {x} X = (
     turn-minus : (s : Bool) → cond (not s) (count x) 0 ≡ cond s 0 (count x)
     turn-minus true = refl
     turn-minus false = refl
+
+-- ---- +0
+abbrev pub zero64 : Float
+zero64 = of_bits binary64 0
+
+pub zero-number : Number zero64
+unfolding of_bits fits
+zero-number = record { is_binary64 = tt; is_finite = tt }
+
+pub zero-sign : negative zero64 ≡ false
+unfolding of_bits negative
+zero-sign = refl
+
+pub zero-count : count zero64 ≡ 0
+unfolding of_bits count
+zero-count = refl
+
+-- ---- the magnitude
+pub magnitude-number : {x : Float} → Number x → Number (abs x)
+unfolding abs fits
+magnitude-number {x} X = go x X
+  where
+    go : (x : Float) → Number x → Number (abs x)
+    go nan X = X
+    go (inf s) X = absurd X.is_finite
+    go (fin s m e) X = record { is_binary64 = X.is_binary64; is_finite = tt }
+
+pub magnitude-sign : (x : Float) → negative (abs x) ≡ false
+unfolding abs negative
+magnitude-sign nan = refl
+magnitude-sign (inf s) = refl
+magnitude-sign (fin s m e) = refl
+
+pub magnitude-count : (x : Float) → count (abs x) ≡ count x
+unfolding abs count
+magnitude-count nan = refl
+magnitude-count (inf s) = refl
+magnitude-count (fin s m e) = refl
 
 -- ---- fractions with one denominator: A / C is a / L, and B / C is b / L
 le-fraction : (A B C a b L : ℕ) → 0 < C → A * L ≡ a * C → B * L ≡ b * C → A ≤ B → a ≤ b

@@ -71,6 +71,10 @@ pub difference-minus : (n : ℕ) → Difference (signed true n) 0 n
 difference-minus zero = refl
 difference-minus (suc n) = omega arith
 
+pub difference-times : (z : ℤ) (c : ℕ) → Difference (z *ℤ pos c) (above z * c) (below z * c)
+difference-times (pos n) c = omega arith
+difference-times (negsuc n) c = rw (zero-mul c) (difference-minus (suc n * c))
+
 -- products of signed numbers, and the distance of two of one sign
 pub signed-mul : (s t : Bool) (a b : ℕ) → signed s a *ℤ signed t b ≡ signed (unlike s t) (a * b)
 signed-mul false false a b = pos-*ℤ-pos a b

@@ -7,6 +7,10 @@ pub use Rattle.rounding.proofs.Counts.{exact-size, exact_above, exact_below, par
 -- negation is exact
 pub use Rattle.rounding.proofs.Counts.{neg-number, neg-count, neg-sign, neg-parts}
 pub use Rattle.rounding.proofs.Operations.{neg-exact}
+-- and so is the magnitude
+pub use Rattle.rounding.proofs.Counts.{magnitude-number, magnitude-sign, magnitude-count}
+-- +0
+pub use Rattle.rounding.proofs.Counts.{zero64, zero-number, zero-sign, zero-count}
 -- each operation is one rounding of its operands' counts; the root is one by its definition
 pub use Rattle.rounding.proofs.Counts.{add_is, mul_is, div_is}
 pub use Rattle.rounding.proofs.Operations.{sub_is}
@@ -18,6 +22,10 @@ pub use Rattle.rounding.proofs.Operations.{sub-error, mul-error, mul-error-exact
 -- the same with the parts of each number, and the signs
 pub use Rattle.rounding.proofs.Operations.{add_parts, sub_parts, mul-parts, add-sign, mul-sign, div-sign, add-error-plus, add-size}
 -- the root of a number above zero: a number, not negative, its error, and that no other number is as near
-pub use Rattle.rounding.proofs.SquareRoot.{Rooted, sqrt-root, sqrt-fits, root-squared}
+pub use Rattle.rounding.proofs.SquareRoot.{Rooted, sqrt-root, sqrt-fits, root-squared, root-pos}
+-- and the root of a zero
+pub use Rattle.rounding.proofs.SquareRoot.{root-zero}
 -- the order of numbers is that of their counts
-pub use Rattle.rounding.proofs.Order.{lt-is, le_is, eq_is}
+pub use Rattle.rounding.proofs.Order.{lt-is, le_is, eq_is, lt-plain, le-plain}
+-- squares, and sums of such: neither a NaN nor with a minus sign, and no larger for operands that are no larger
+pub use Rattle.rounding.proofs.Squares.{Unsigned, square-unsigned, add-unsigned, unlike-self, NotAbove, not-above, squares-keep, sums-keep, root-within-limit}

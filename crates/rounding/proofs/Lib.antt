@@ -6,4 +6,6 @@ pub mod Sum
 pub mod Operations
 pub mod SquareRoot
 pub mod Order
+pub mod Squares
 pub mod Laws
+pub mod Close

@@ -106,3 +106,12 @@ le_is {x} {y} X Y = ap (λ (c : Bool). c || eq x y) (lt-is X Y) ∙ ap (λ (c : 
         split : (a ≡ b) ⊎ (a < b) → T (ltb a b || eqb a b)
         split (inl e) = from-eq (ltb a b) (eqb a b) (eq→eqb e)
         split (inr l) = from-lt (ltb a b) (eqb a b) (lt→ltb a b l)
+
+-- ---- of two numbers with no minus sign, by their counts
+pub lt-plain : {x y : Float} → Number x → Number y → negative x ≡ false → negative y ≡ false → lt x y ≡ ltb (count x) (count y)
+unfolding plus_part minus_part
+lt-plain {x} {y} X Y p q = lt-is X Y ∙ rw (p, q, add-zero (count x), add-zero (count y)) refl
+
+pub le-plain : {x y : Float} → Number x → Number y → negative x ≡ false → negative y ≡ false → le x y ≡ leb (count x) (count y)
+unfolding plus_part minus_part
+le-plain {x} {y} X Y p q = le_is X Y ∙ rw (p, q, add-zero (count x), add-zero (count y)) refl

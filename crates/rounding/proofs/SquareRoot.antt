@@ -1,8 +1,8 @@
 -- The square root over counts: its error, and that no other number is as near. Assumes nothing.
-use mathlib.Core.Path.{◌≡◌, sym, ap, ◌∙◌, subst}
+use mathlib.Core.Path.{◌≡◌, refl, sym, ap, ◌∙◌, subst}
 use mathlib.Core.Bool.{Bool, true, false, cond, true≢false}
 use Prim.Native.Nat.{ℕ, zero, suc, ◌+◌, ◌-◌, ◌*◌, ◌/◌, ◌^◌, ◌≤◌, ◌<◌, compare, zero-le}
-use native.Mathlib.Nat.{le_refl, le_trans, le_of_eq, le_of_lt, lt_of_le_of_lt, lt_of_lt_of_le, lt_of_not-le, lt_irrefl, mul_assoc, mul-mul-mul_comm, mul-le-mul, mul-le-mul_right, mul-le-mul_left, mul-lt-mul_of_pos_right, lt_of_mul-lt-mul_right, le_of_mul-le-mul_left, zero-mul, pow-suc}
+use native.Mathlib.Nat.{le_refl, le_trans, le_of_eq, le_of_lt, lt_of_le_of_lt, lt_of_lt_of_le, lt_of_not-le, lt_irrefl, zero-lt-suc, mul-pos, mul_assoc, mul-mul-mul_comm, mul-le-mul, mul-le-mul_right, mul-le-mul_left, mul-lt-mul_of_pos_right, lt_of_mul-lt-mul_right, le_of_mul-le-mul_left, zero-mul, pow-suc}
 use native.Mathlib.Decide.{dec_le}
 use native.Mathlib.Omega.{arith}
 use lib.Dec.{T, leb, ltb, ltb→lt, lit<, lit≤}
@@ -19,6 +19,7 @@ use Rattle.float.proofs.Rounding.{Rounding, rounding}
 use Rattle.rounding.specs.Number.{Number, one}
 use Rattle.rounding.specs.Error.{Within, RoundedRoot, Nearer}
 use Rattle.rounding.proofs.Round.{value-finite}
+use Rattle.rounding.proofs.Operations.{one-pos}
 
 -- ---- a root is a binary64
 isqrt-lt : (d n : ℕ) → isqrt d n < 2 ^ d
@@ -202,6 +203,14 @@ sqrt-root {g} = go g
     go (fin true (suc m) e) G s p = absurd (true≢false s)
     go (fin false (suc m) e) G s p = of-rounding (fin false (suc m) e) (square_root (fin false (suc m) e)) (sqrt-fits (fin false (suc m) e) G.is_binary64) (rounding m e G.is_binary64)
 
+-- the root of a zero is that zero
+pub root-zero : (g : Float) → Number g → count g ≡ 0 → square_root g ≡ g
+unfolding square_root count
+root-zero nan G e = absurd G.is_finite
+root-zero (inf s) G e = absurd G.is_finite
+root-zero (fin s zero d) G e = refl
+root-zero (fin s (suc m) d) G e = absurd (lt_irrefl 0 (subst (λ (v : ℕ). 0 < v) e (mul-pos (zero-lt-suc m) (pow_pos (shift d)))))
+
 -- ---- the square of the root is near to the number, within 3 / 2 ^ 53 of itself. R is that square
 crude : (a b n R : ℕ) → 0 < a → 4 * b ≤ 5 * a → a * n ≤ b * R → 4 * n ≤ 5 * R
 crude a b n R P e h = le_of_mul-le-mul_left {k = a} (omega (arith, mul-le-mul_right R e)) P
@@ -225,3 +234,10 @@ root-squared {n} {r} h =
   where
     parted : (k r : ℕ) → square (k * r) ≡ k * (k * square r)
     parted k r = omega arith
+
+pub root-pos : {g : Float} → Number g → negative g ≡ false → 0 < count g → 0 < count (square_root g)
+root-pos {g} G s p = some (count (square_root g)) (count g * one) (root-squared (sqrt-root G s p).error).under (mul-pos p one-pos)
+  where
+    some : (r n : ℕ) → 2 ^ 53 * n ≤ 2 ^ 53 * square r + 3 * square r → 0 < n → 0 < r
+    some zero n h p = omega (arith, h)
+    some (suc r) n h p = zero-lt-suc r

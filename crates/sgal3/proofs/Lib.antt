@@ -1,4 +1,5 @@
 pub mod Sums
+pub mod Branches
 pub mod Outcomes
 pub mod Dots
 pub mod Filled

@@ -3,6 +3,7 @@ use Rattle.std.specs.Prelude.{Bool, List, Float}
 use Rattle.manifold.specs.Group as Manifold
 use Rattle.sgal3_rows.specs.declared.Adjoint.{Adjoint}
 use Rattle.so3.specs.Group as So3
+use Rattle.so3.specs.Tangents as So3-as-Tangents
 use Rattle.sgal3.specs.Elements as Elements
 use Rattle.sgal3.specs.Tangents as Tangents
 use Rattle.sgal3.specs.Matrices as Matrices
@@ -14,9 +15,9 @@ use Rattle.sgal3.specs.declared.Tangent.{Tangent}
 unfoldable pub log_leaves_series : Element → Bool
 log_leaves_series a = So3.log_jacobian_leaves_series (Elements.rotation_impl a)
 
--- exp tests the squared theta
-unfoldable pub exp_leaves_series : Tangent → Bool
-exp_leaves_series t = So3.exp_leaves_series (Tangents.turn t)
+-- the calls of exp and plus test the squared theta
+unfoldable pub turn_too_large : Tangent → Bool
+turn_too_large t = So3-as-Tangents.turn_too_large (Tangents.turn t)
 
 abbrev pub group : Manifold.Group Element Tangent (List (List Float)) (List Float) Adjoint
 group =
@@ -47,7 +48,7 @@ tangents =
       tangent_of = Tangents.tangent_of;
       zero = Tangents.zero;
       exp = Tangents.exp;
-      leaves_series = exp_leaves_series;
+      turn_too_large = turn_too_large;
       hat = Algebra.hat;
       generator = Algebra.generator;
       small_adj = Algebra.small_adj;

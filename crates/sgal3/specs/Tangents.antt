@@ -1,15 +1,19 @@
--- Tangents of SGal(3): the series of exp at the rounded operations, and the ten values of a tangent. Definitions only.
-use Rattle.std.specs.Prelude.{List, [], ◌∷◌, get_or, Float}
+-- Tangents of SGal(3): exp at the rounded operations, and the ten values of a tangent. Definitions only.
+use Rattle.std.specs.Prelude.{cond, List, [], ◌∷◌, get_or, Float}
 use Rattle.std.specs.Float.{nan}
 use Rattle.law.specs.Rounded.{rounded, divisors}
 use Rattle.law.specs.Vector as Vector
 use Rattle.law.specs.Galilean as Law
 use Rattle.law.specs.GalileanSeries as Series
-use Rattle.linear.specs.Records.{vector, vec3, of_quaternion, mat3}
+use Rattle.law.specs.ClosedForms as ClosedForms
+use Rattle.linear.specs.Records.{vector, vec3, quaternion, of_quaternion, matrix, mat3}
 use Rattle.linear.specs.declared.Vec3.{Vec3}
 use Rattle.linear.specs.declared.Mat3.{Mat3}
+use Rattle.so3.specs.Angles.{angle, of_square}
 use Rattle.so3.specs.Tangents as So3
-use Rattle.so3.specs.declared.Tangent as Rotations
+use Rattle.so3.specs.declared.Angle.{Angle}
+use Rattle.so3.specs.declared.Element as Rotations
+use Rattle.so3.specs.declared.Tangent as Turns
 use Rattle.sgal3.specs.declared.Element.{Element}
 use Rattle.sgal3.specs.declared.Tangent.{Tangent}
 
@@ -20,25 +24,39 @@ tangent a = record { rho = vector a.rho; nu = vector a.nu; theta = vector a.thet
 abbrev pub of_tangent : Law.Tangent Float → Tangent
 of_tangent a = record { rho = vec3 a.rho; nu = vec3 a.nu; theta = vec3 a.theta; s = a.s }
 
-unfoldable pub s_nu_coupling : Vec3 → Mat3
-s_nu_coupling θ = mat3 (Series.s_nu_coupling rounded divisors (vector θ))
-
 unfoldable pub zero : Tangent
 zero =
     of_tangent
     (record { rho = Vector.zero rounded; nu = Vector.zero rounded; theta = Vector.zero rounded; s = rounded.zero })
 
-unfoldable pub exp : Tangent → Element
-exp a =
-    let e = Series.exp rounded divisors (tangent a) in
-    record { translation = vec3 e.translation; rotation = of_quaternion e.rotation; velocity = vec3 e.velocity; time = e.time }
-
 -- theta as a tangent of SO(3), and put back
-unfoldable pub turn : Tangent → Rotations.Tangent
+unfoldable pub turn : Tangent → Turns.Tangent
 turn a = record { theta = a.theta }
 
-unfoldable pub with_theta : Tangent → Rotations.Tangent → Tangent
+unfoldable pub with_theta : Tangent → Turns.Tangent → Tangent
 with_theta a t = record { rho = a.rho; nu = a.nu; theta = t.theta; s = a.s }
+
+-- ---- M: by its coefficients; by its series up to the limit, by its closed form above it
+unfoldable pub coupling_by : Float → Float → Vec3 → Mat3
+coupling_by a b θ = mat3 (Series.coupling_by rounded a b (vector θ))
+
+unfoldable pub s_nu_coupling_series : Vec3 → Mat3
+s_nu_coupling_series θ = mat3 (Series.s_nu_coupling rounded divisors (vector θ))
+
+unfoldable pub s_nu_coupling_closed : Angle → Vec3 → Mat3
+s_nu_coupling_closed w θ = mat3 (ClosedForms.s_nu_coupling rounded (angle w) (vector θ))
+
+unfoldable pub s_nu_coupling : Turns.Tangent → Mat3
+s_nu_coupling t = cond (So3.leaves_series t) (s_nu_coupling_closed (of_square (So3.theta_squared t)) t.theta) (s_nu_coupling_series t.theta)
+
+-- ---- exp: by the rotation, and the left Jacobian and M of theta
+unfoldable pub exp_by : Rotations.Element → Mat3 → Mat3 → Tangent → Element
+exp_by r j m a =
+    let e = Series.exp_by rounded (matrix j) (matrix m) (quaternion r.params) (tangent a) in
+    record { translation = vec3 e.translation; rotation = of_quaternion e.rotation; velocity = vec3 e.velocity; time = e.time }
+
+unfoldable pub exp : Tangent → Element
+exp a = let t = turn a in exp_by (So3.exp t) (So3.left_jacobian t) (s_nu_coupling t) a
 
 -- SO(3)'s, of theta: a norm not above 2^-52 leaves it
 unfoldable pub normalize : Tangent → Tangent

@@ -12,6 +12,7 @@ ghost use Rattle.sgal3.specs.Tangents as Tangents;
 use linear::{Mat3, Quaternion, Vec3};
 use manifold::{Jacobian, LieGroup, Tangent as _, Values};
 use sgal3_rows::Adjoint;
+use so3::Angle;
 
 // A block's values in their order: translation, quaternion w, x, y, z, velocity, time.
 #[derive(Clone, Copy)]
@@ -182,7 +183,7 @@ impl LieGroup for Element {
         let theta = turn.theta;
         let v_inv = turn.left_jacobian_inv();
         let nu = v_inv.apply(self.velocity);
-        let coupling = s_nu_coupling(theta);
+        let coupling = s_nu_coupling_series(theta);
         let rho = v_inv.apply(self.translation.sub(coupling.apply(nu).scale(self.time)));
         Tangent {
             rho,
@@ -294,23 +295,57 @@ impl LieGroup for Element {
     }
 }
 
-// M of exp and log: what a velocity adds to the translation in a unit of time while the rotation turns.
-fn s_nu_coupling(theta: Vec3) -> Mat3
-    ensures { result ≡ Tangents.s_nu_coupling theta }
+// ---- M of exp and log: what a velocity adds to the translation in a unit of time while the rotation turns
+
+// By its coefficients.
+fn coupling_by(theta: Vec3, a: f64, b: f64) -> Mat3
+    ensures { result ≡ Tangents.coupling_by a b theta }
 {
-    let w_squared = theta.norm_squared();
     let theta_skew = Mat3::hat(theta);
     Mat3::identity()
         .scale(0.5)
-        .add(theta_skew.scale(1.0 / 6.0 - w_squared / 120.0))
-        .add(
-            theta_skew
-                .mul(theta_skew)
-                .scale(1.0 / 24.0 - w_squared / 720.0),
-        )
+        .add(theta_skew.scale(a))
+        .add(theta_skew.mul(theta_skew).scale(b))
+}
+
+#[tactic(auto, unfolding(crate::specs::Tangents::s_nu_coupling_series, crate::specs::Tangents::coupling_by, law::specs::GalileanSeries::s_nu_coupling, linear::specs::Vectors::norm_squared))]
+fn s_nu_coupling_series(theta: Vec3) -> Mat3
+    ensures { result ≡ Tangents.s_nu_coupling_series theta }
+{
+    let w_squared = theta.norm_squared();
+    let a = 1.0 / 6.0 - w_squared / 120.0;
+    let b = 1.0 / 24.0 - w_squared / 720.0;
+    coupling_by(theta, a, b)
+}
+
+#[tactic(auto, unfolding(crate::specs::Tangents::s_nu_coupling_closed, crate::specs::Tangents::coupling_by, law::specs::ClosedForms::s_nu_coupling))]
+fn s_nu_coupling_closed(theta: Vec3, w: Angle) -> Mat3
+    ensures { result ≡ Tangents.s_nu_coupling_closed w theta }
+{
+    let a = (w.angle - w.sine) / (w.angle * w.angle * w.angle);
+    let b = (w.squared + 2.0 * w.cosine - 2.0) / (2.0 * w.squared * w.squared);
+    coupling_by(theta, a, b)
 }
 
 impl Tangent {
+    // Exp by the rotation, and the left Jacobian and M of theta.
+    fn exp_by(self, rot: so3::Element, v_matrix: Mat3, coupling: Mat3) -> Element
+        ensures { result ≡ Tangents.exp_by rot v_matrix coupling self }
+    {
+        let nu = self.nu;
+        let rotation = rot.params;
+        let velocity = v_matrix.apply(nu);
+        let translation = v_matrix
+            .apply(self.rho)
+            .add(coupling.apply(nu).scale(self.s));
+        Element {
+            translation,
+            rotation,
+            velocity,
+            time: self.s,
+        }
+    }
+
     // Theta as a tangent of SO(3), and put back.
     #[tactic(auto, unfolding(crate::specs::Tangents::turn))]
     fn turn(self) -> so3::Tangent
@@ -376,31 +411,31 @@ impl manifold::Tangent for Tangent {
         }
     }
 
-    // The series branch; the call refuses where it would be left.
+    // The left Jacobian and M share the angle, its sine and its cosine.
     fn exp(self) -> Element {
-        let nu = self.nu;
-        let theta = self.theta;
-        let turn = so3::Tangent { theta };
-        let rot = turn.exp();
-        let rotation = rot.params;
-        let v_matrix = turn.left_jacobian();
-        let velocity = v_matrix.apply(nu);
-        let coupling = s_nu_coupling(theta);
-        let translation = v_matrix
-            .apply(self.rho)
-            .add(coupling.apply(nu).scale(self.s));
-        Element {
-            translation,
-            rotation,
-            velocity,
-            time: self.s,
+        let turn = self.turn();
+        if turn.leaves_series() {
+            let w = Angle::of_square(turn.theta_squared());
+            let v_matrix = turn.left_jacobian_closed(w);
+            self.exp_by(
+                turn.exp_closed(),
+                v_matrix,
+                s_nu_coupling_closed(self.theta, w),
+            )
+        } else {
+            let v_matrix = turn.left_jacobian_series();
+            self.exp_by(
+                turn.exp_series(),
+                v_matrix,
+                s_nu_coupling_series(self.theta),
+            )
         }
     }
 
-    // Exp tests the squared theta.
-    #[tactic(auto, unfolding(crate::specs::Group::exp_leaves_series))]
-    fn leaves_series(self) -> bool {
-        self.turn().leaves_series()
+    // The calls of exp and plus test the squared theta.
+    #[tactic(auto, unfolding(crate::specs::Group::turn_too_large))]
+    fn turn_too_large(self) -> bool {
+        self.turn().turn_too_large()
     }
 
     #[tactic(auto, unfolding(crate::specs::Algebra::hat, crate::specs::Algebra::lie_algebra, linear::specs::Matrices::hat, law::specs::Galilean::hat))]

@@ -13,13 +13,9 @@ use Rattle.so3.specs.declared.Tangent.{Tangent}
 unfoldable pub log_leaves_series : Element → Bool
 log_leaves_series a = Answers.leaves_series (Elements.sin_angle_squared a)
 
--- exp and the Jacobians test the squared angle
-unfoldable pub exp_leaves_series : Tangent → Bool
-exp_leaves_series t = Answers.leaves_series (Tangents.theta_squared t)
-
 -- log's Jacobian tests the squared angle of log's answer as well
 unfoldable pub log_jacobian_leaves_series : Element → Bool
-log_jacobian_leaves_series a = exp_leaves_series (Elements.log a) || log_leaves_series a
+log_jacobian_leaves_series a = Tangents.leaves_series (Elements.log a) || log_leaves_series a
 
 abbrev pub group : Manifold.Group Element Tangent Mat3 Mat3 Mat3
 group =
@@ -50,7 +46,7 @@ tangents =
       tangent_of = Tangents.tangent_of;
       zero = Tangents.zero;
       exp = Tangents.exp;
-      leaves_series = exp_leaves_series;
+      turn_too_large = Tangents.turn_too_large;
       hat = Tangents.hat;
       generator = Tangents.generator;
       small_adj = Tangents.small_adj;

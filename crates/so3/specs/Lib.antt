@@ -1,4 +1,5 @@
 pub mod Elements
+pub mod Angles
 pub mod Tangents
 pub mod Group
 pub mod Jacobians

@@ -1,5 +1,6 @@
--- Tangents of SO(3): the series of exp and of the Jacobians at the rounded operations. Definitions only.
-use Rattle.std.specs.Prelude.{ℕ, cond, List, eqb, Float}
+-- Tangents of SO(3): exp and the Jacobians at the rounded operations, by their series up to the limit, exp and the Jacobians that are not inverses by
+-- their closed forms above it. Definitions only.
+use Rattle.std.specs.Prelude.{ℕ, Bool, cond, List, eqb, Float}
 use Rattle.std.specs.Float.{binary64}
 use Rattle.std.specs.Float.Ieee.{of_bits, lt}
 use Rattle.law.specs.Rounded.{rounded}
@@ -7,11 +8,15 @@ use Rattle.law.specs.Vector as Law-as-Vector
 use Rattle.law.specs.Matrix as Law-as-Matrix
 use Rattle.law.specs.Rotation as Law
 use Rattle.law.specs.Series as Series
+use Rattle.law.specs.ClosedForms as ClosedForms
 use Rattle.linear.specs.Records.{vector, vec3, of_quaternion, mat3, vector_values}
 use Rattle.linear.specs.Matrices as Matrices
 use Rattle.manifold.specs.Answers.{vector_at}
+use Rattle.manifold.specs.Answers as Answers
 use Rattle.linear.specs.declared.Vec3.{Vec3}
 use Rattle.linear.specs.declared.Mat3.{Mat3}
+use Rattle.so3.specs.Angles.{angle, of_square}
+use Rattle.so3.specs.declared.Angle.{Angle}
 use Rattle.so3.specs.declared.Element.{Element}
 use Rattle.so3.specs.declared.Tangent.{Tangent}
 
@@ -33,15 +38,45 @@ zero = tangent (Law-as-Vector.zero rounded)
 unfoldable pub theta_squared : Tangent → Float
 theta_squared a = Law-as-Vector.norm_squared rounded (θ a)
 
+-- above the limit exp and the Jacobians leave their series
+unfoldable pub leaves_series : Tangent → Bool
+leaves_series a = Answers.leaves_series (theta_squared a)
+
+-- a squared angle above 9: the calls of exp, plus and the Jacobians that are not inverses refuse it
+unfoldable pub turn_too_large : Tangent → Bool
+turn_too_large a = Answers.turn_too_large (theta_squared a)
+
+-- ---- exp
+unfoldable pub exp_series : Tangent → Element
+exp_series a = record { params = of_quaternion (Series.exp rounded (θ a)) }
+
+-- half of theta, whose norm is half the angle
+abbrev pub half : Tangent → Law-as-Vector.Vector Float
+half a = Law-as-Vector.divide rounded (θ a) rounded.two
+
+abbrev pub half_angle : Tangent → Angle
+half_angle a = of_square (Law-as-Vector.norm_squared rounded (half a))
+
+unfoldable pub exp_closed : Tangent → Element
+exp_closed a = record { params = of_quaternion (ClosedForms.exp rounded (angle (half_angle a)) (half a)) }
+
 unfoldable pub exp : Tangent → Element
-exp a = record { params = of_quaternion (Series.exp rounded (θ a)) }
+exp a = cond (leaves_series a) (exp_closed a) (exp_series a)
+
+-- ---- the Jacobians that are not inverses
+unfoldable pub left_jacobian_series : Tangent → Mat3
+left_jacobian_series a = mat3 (Series.left_jacobian rounded (θ a))
+
+unfoldable pub left_jacobian_closed : Angle → Tangent → Mat3
+left_jacobian_closed w a = mat3 (ClosedForms.left_jacobian rounded (angle w) (θ a))
 
 unfoldable pub left_jacobian : Tangent → Mat3
-left_jacobian a = mat3 (Series.left_jacobian rounded (θ a))
+left_jacobian a = cond (leaves_series a) (left_jacobian_closed (of_square (theta_squared a)) a) (left_jacobian_series a)
 
 unfoldable pub right_jacobian : Tangent → Mat3
-right_jacobian a = mat3 (Series.right_jacobian rounded (θ a))
+right_jacobian a = Matrices.transpose (left_jacobian a)
 
+-- ---- the inverse Jacobians: their series alone
 unfoldable pub left_jacobian_inv : Tangent → Mat3
 left_jacobian_inv a = mat3 (Series.left_jacobian_inv rounded (θ a))
 

@@ -3,6 +3,7 @@
 #![tactic(auto)]
 
 ghost use Rattle.std.specs.Prelude.{◌≡◌};
+ghost use Rattle.so3.specs.Angles as Angles;
 ghost use Rattle.so3.specs.Elements as Elements;
 ghost use Rattle.so3.specs.Group as Group;
 ghost use Rattle.so3.specs.Jacobians as Jacobians;
@@ -254,6 +255,31 @@ impl LieGroup for Element {
     }
 }
 
+// An angle with its square, its sine and its cosine: what the closed forms are made of.
+#[derive(Clone, Copy)]
+pub struct Angle {
+    pub squared: f64,
+    pub angle: f64,
+    pub sine: f64,
+    pub cosine: f64,
+}
+
+impl Angle {
+    // Of the angle with this square.
+    #[tactic(auto, unfolding(crate::specs::Angles::of_square))]
+    pub fn of_square(squared: f64) -> Angle
+        ensures { result ≡ Angles.of_square squared }
+    {
+        let angle = float::general_sqrt(squared);
+        Angle {
+            squared,
+            angle,
+            sine: trigonometry::sine(angle),
+            cosine: trigonometry::cosine(angle),
+        }
+    }
+}
+
 // 2, or -2 where w is below zero: q and -q are the same rotation.
 #[tactic(auto, unfolding(crate::specs::Elements::log_coeff))]
 fn log_coeff(w: f64) -> f64
@@ -286,17 +312,85 @@ impl Tangent {
         self.theta.norm_squared()
     }
 
-    pub fn left_jacobian(self) -> Mat3
-        ensures { result ≡ Tangents.left_jacobian self }
+    // Whether exp and the Jacobians leave their series.
+    #[tactic(auto, unfolding(crate::specs::Tangents::leaves_series))]
+    pub fn leaves_series(self) -> bool
+        ensures { result ≡ Tangents.leaves_series self }
+    {
+        manifold::leaves_series(self.theta_squared())
+    }
+
+    // ---- Exp and the left Jacobian, each by its series and by its closed form
+
+    #[tactic(auto, unfolding(crate::specs::Tangents::exp_series, linear::specs::Quaternions::normalize, law::specs::Series::exp, law::specs::Rotation::unit_quaternion))]
+    pub fn exp_series(self) -> Element
+        ensures { result ≡ Tangents.exp_series self }
+    {
+        let theta = self.theta;
+        let q = Quaternion {
+            w: 1.0,
+            x: theta.x / 2.0,
+            y: theta.y / 2.0,
+            z: theta.z / 2.0,
+        };
+        Element {
+            params: q.normalize(),
+        }
+    }
+
+    // nalgebra's from_scaled_axis, by a textbook: not normalised.
+    pub fn exp_closed(self) -> Element
+        ensures { result ≡ Tangents.exp_closed self }
+    {
+        let half = self.theta.divide(2.0);
+        let n = Angle::of_square(half.norm_squared());
+        let v = half.scale(n.sine / n.angle);
+        let q = Quaternion {
+            w: n.cosine,
+            x: v.x,
+            y: v.y,
+            z: v.z,
+        };
+        Element { params: q }
+    }
+
+    pub fn left_jacobian_series(self) -> Mat3
+        ensures { result ≡ Tangents.left_jacobian_series self }
     {
         Mat3::identity().add(self.hat().scale(0.5))
     }
 
+    // Over an angle that is given: SGal(3)'s exp needs it elsewhere too.
+    pub fn left_jacobian_closed(self, w: Angle) -> Mat3
+        ensures { result ≡ Tangents.left_jacobian_closed w self }
+    {
+        let skew = self.hat();
+        let a = (1.0 - w.cosine) / w.squared;
+        let b = (w.angle - w.sine) / (w.squared * w.angle);
+        Mat3::identity()
+            .add(skew.scale(a))
+            .add(skew.scale(b).mul(skew))
+    }
+
+    #[tactic(auto, unfolding(crate::specs::Tangents::left_jacobian))]
+    pub fn left_jacobian(self) -> Mat3
+        ensures { result ≡ Tangents.left_jacobian self }
+    {
+        if self.leaves_series() {
+            self.left_jacobian_closed(Angle::of_square(self.theta_squared()))
+        } else {
+            self.left_jacobian_series()
+        }
+    }
+
+    #[tactic(auto, unfolding(crate::specs::Tangents::right_jacobian))]
     pub fn right_jacobian(self) -> Mat3
         ensures { result ≡ Tangents.right_jacobian self }
     {
         self.left_jacobian().transpose()
     }
+
+    // ---- The inverse Jacobians: the series; the calls refuse where it would be left
 
     pub fn left_jacobian_inv(self) -> Mat3
         ensures { result ≡ Tangents.left_jacobian_inv self }
@@ -331,9 +425,9 @@ impl manifold::Tangent for Tangent {
         }
     }
 
-    #[tactic(auto, unfolding(crate::specs::Group::exp_leaves_series))]
-    fn leaves_series(self) -> bool {
-        manifold::leaves_series(self.theta_squared())
+    #[tactic(auto, unfolding(crate::specs::Tangents::turn_too_large))]
+    fn turn_too_large(self) -> bool {
+        manifold::turn_too_large(self.theta_squared())
     }
 
     fn generator(i: usize) -> Mat3 {
@@ -347,18 +441,12 @@ impl manifold::Tangent for Tangent {
         }
     }
 
-    // The series branch, as are the Jacobians; the calls refuse where it would be left.
-    #[tactic(auto, unfolding(crate::specs::Tangents::exp, linear::specs::Quaternions::normalize, law::specs::Series::exp, law::specs::Rotation::unit_quaternion))]
+    #[tactic(auto, unfolding(crate::specs::Tangents::exp))]
     fn exp(self) -> Element {
-        let theta = self.theta;
-        let q = Quaternion {
-            w: 1.0,
-            x: theta.x / 2.0,
-            y: theta.y / 2.0,
-            z: theta.z / 2.0,
-        };
-        Element {
-            params: q.normalize(),
+        if self.leaves_series() {
+            self.exp_closed()
+        } else {
+            self.exp_series()
         }
     }
 

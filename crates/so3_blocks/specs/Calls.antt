@@ -1,7 +1,13 @@
--- The calls on blocks that SO(3) alone has, each with every refusal. Definitions only.
-use Rattle.std.specs.Prelude.{[], ◌∷◌, List, Result, Ok, Float}
-use Rattle.checks.specs.Checks.{and_then, check_unit_quaternion}
+-- The calls on blocks that SO(3) alone has, and sine and cosine, each with every refusal. Definitions only.
+use Rattle.std.specs.Prelude.{cond, [], ◌∷◌, List, Result, Ok, Err, Float}
+use Rattle.std.specs.Float.Ieee.{lt}
+use Rattle.std.specs.Float.Ieee.Scale.{finite}
+use Rattle.float.specs.Exact.{abs}
+use Rattle.trigonometry.specs.Sines as Sines
+use Rattle.trigonometry.specs.Taylor.{four}
+use Rattle.checks.specs.Checks.{Check, and_then, check_unit_quaternion}
 use Rattle.checks.specs.declared.Refusal.{Refusal}
+use Rattle.checks.specs.declared.Refusal.TheVariants.{NotFinite}
 use Rattle.linear.specs.Records.{matrix_values}
 use Rattle.linear.specs.declared.Mat3.{Mat3}
 use Rattle.manifold.specs.Answers.{answered, within}
@@ -12,13 +18,14 @@ use Rattle.so3.specs.Tangents as Tangents
 use Rattle.so3.specs.Jacobians as Jacobians
 use Rattle.so3.specs.Group.{group, tangents, log_jacobian_leaves_series}
 use Rattle.so3.specs.declared.Element.{Element}
+use Rattle.so3.specs.declared.Tangent.{Tangent}
 
 -- the one call of four values instead of a block: normalised once
 unfoldable pub try_from_quaternion_wxyz : Float → Float → Float → Float → Float → Result Element Refusal
 try_from_quaternion_wxyz w x y z tolerance =
     and_then (check_unit_quaternion (w ∷ x ∷ y ∷ z ∷ []) tolerance) (λ _. answered Elements.values (Elements.from_quaternion_wxyz w x y z))
 
--- ---- Jacobians of log and exp: refused where a series is left
+-- ---- Jacobians of log and exp: those of log and the inverse ones refused where a series is left, the others where exp is
 unfoldable pub within_log_jacobian : List Float → Float → Result Element Refusal
 within_log_jacobian block tolerance = and_then (Generic.element group block tolerance) (λ a. and_then (within (log_jacobian_leaves_series a)) (λ _. Ok a))
 
@@ -31,11 +38,14 @@ left_jacobian tangent = and_then (Generic.within_exp tangents tangent) (λ t. an
 unfoldable pub right_jacobian : List Float → Result Mat3 Refusal
 right_jacobian tangent = and_then (Generic.within_exp tangents tangent) (λ t. answered matrix_values (Tangents.right_jacobian t))
 
+unfoldable pub within_series : List Float → Result Tangent Refusal
+within_series tangent = and_then (Generic.tangent tangents tangent) (λ t. and_then (within (Tangents.leaves_series t)) (λ _. Ok t))
+
 unfoldable pub left_jacobian_inv : List Float → Result Mat3 Refusal
-left_jacobian_inv tangent = and_then (Generic.within_exp tangents tangent) (λ t. answered matrix_values (Tangents.left_jacobian_inv t))
+left_jacobian_inv tangent = and_then (within_series tangent) (λ t. answered matrix_values (Tangents.left_jacobian_inv t))
 
 unfoldable pub right_jacobian_inv : List Float → Result Mat3 Refusal
-right_jacobian_inv tangent = and_then (Generic.within_exp tangents tangent) (λ t. answered matrix_values (Tangents.right_jacobian_inv t))
+right_jacobian_inv tangent = and_then (within_series tangent) (λ t. answered matrix_values (Tangents.right_jacobian_inv t))
 
 -- ---- of plus with respect to its tangent
 unfoldable pub right_plus_jacobian_tangent : List Float → List Float → Float → Result Mat3 Refusal
@@ -67,3 +77,13 @@ left_minus_jacobian_self left right tolerance = and_then (within_left_minus_jaco
 
 unfoldable pub left_minus_jacobian_other : List Float → List Float → Float → Result Mat3 Refusal
 left_minus_jacobian_other left right tolerance = and_then (within_left_minus_jacobian left right tolerance) (λ p. answered matrix_values (Jacobians.left_minus_jacobian_other p.0 p.1))
+
+-- ---- sine and cosine: a number that is not finite is refused, and then a magnitude above 4
+unfoldable pub check_angle : Float → Check
+check_angle x = cond (finite x) (within (lt four (abs x))) (Err NotFinite)
+
+unfoldable pub sine : Float → Result Float Refusal
+sine x = and_then (check_angle x) (λ _. Ok (Sines.sine x))
+
+unfoldable pub cosine : Float → Result Float Refusal
+cosine x = and_then (check_angle x) (λ _. Ok (Sines.cosine x))

@@ -1,5 +1,5 @@
-// The calls on blocks that SO(3) alone has: a rotation of four values, and the Jacobians of log, exp, plus and minus in their series. Each refuses,
-// or answers with the operation of `so3` of the same name.
+// The calls on blocks that SO(3) alone has: a rotation of four values, and the Jacobians of log, exp, plus and minus; and sine and cosine, of a number.
+// Each refuses, or answers with the operation of `so3` or `trigonometry` of the same name.
 #![tactic(auto)]
 
 ghost use Rattle.std.specs.Prelude.{◌≡◌};
@@ -25,8 +25,8 @@ pub fn try_from_quaternion_wxyz(
     manifold::answered(Element::from_quaternion_wxyz(w, x, y, z))
 }
 
-// ---- Jacobians of log and exp: they refuse 4 where a series is left. These calls, as those below, are alike but for the operation that each names; with
-// the operation as a parameter the contract would be the caller's to state.
+// ---- Jacobians of log and exp: those of log and the inverse ones refuse 4 where a series is left, the others where exp does. These calls, as those
+// below, are alike but for the operation that each names; with the operation as a parameter the contract would be the caller's to state.
 
 // The rotation, if log's Jacobian stays in its series there.
 #[tactic(auto, unfolding(crate::specs::Calls::within_log_jacobian))]
@@ -66,18 +66,28 @@ pub fn exp_jacobian(tangent: &[f64]) -> Result<Mat3, Refusal>
     right_jacobian(tangent)
 }
 
+// The tangent, if an inverse Jacobian stays in its series there.
+#[tactic(auto, unfolding(crate::specs::Calls::within_series))]
+pub fn within_series(tangent: &[f64]) -> Result<Tangent, Refusal>
+    ensures { result ≡ Calls.within_series tangent.now }
+{
+    let t = Tangent::try_from_slice(tangent)?;
+    manifold::within(t.leaves_series())?;
+    Ok(t)
+}
+
 #[tactic(auto, unfolding(crate::specs::Calls::left_jacobian_inv))]
 pub fn left_jacobian_inv(tangent: &[f64]) -> Result<Mat3, Refusal>
     ensures { result ≡ Calls.left_jacobian_inv tangent.now }
 {
-    manifold::answered(manifold_blocks::within_exp::<Tangent>(tangent)?.left_jacobian_inv())
+    manifold::answered(within_series(tangent)?.left_jacobian_inv())
 }
 
 #[tactic(auto, unfolding(crate::specs::Calls::right_jacobian_inv))]
 pub fn right_jacobian_inv(tangent: &[f64]) -> Result<Mat3, Refusal>
     ensures { result ≡ Calls.right_jacobian_inv tangent.now }
 {
-    manifold::answered(manifold_blocks::within_exp::<Tangent>(tangent)?.right_jacobian_inv())
+    manifold::answered(within_series(tangent)?.right_jacobian_inv())
 }
 
 // ---- Of plus with respect to its tangent
@@ -205,4 +215,32 @@ pub fn left_minus_jacobian_other(
 {
     let (a, b) = within_left_minus_jacobian(left, right, tolerance)?;
     manifold::answered(a.left_minus_jacobian_other(b))
+}
+
+// ---- Sine and cosine, of a number that is finite and of magnitude at most 4
+
+#[tactic(auto, unfolding(crate::specs::Calls::check_angle))]
+pub fn check_angle(x: f64) -> Result<(), Refusal>
+    ensures { result ≡ Calls.check_angle x }
+{
+    if !float::is_finite(x) {
+        return Err(Refusal::NotFinite);
+    }
+    manifold::within(float::magnitude(x) > 4.0)
+}
+
+#[tactic(auto, unfolding(crate::specs::Calls::sine))]
+pub fn sine(x: f64) -> Result<f64, Refusal>
+    ensures { result ≡ Calls.sine x }
+{
+    check_angle(x)?;
+    Ok(trigonometry::sine(x))
+}
+
+#[tactic(auto, unfolding(crate::specs::Calls::cosine))]
+pub fn cosine(x: f64) -> Result<f64, Refusal>
+    ensures { result ≡ Calls.cosine x }
+{
+    check_angle(x)?;
+    Ok(trigonometry::cosine(x))
 }

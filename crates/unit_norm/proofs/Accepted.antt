@@ -4,10 +4,9 @@ use mathlib.Core.Path.{◌≡◌, refl, sym, ap, ◌∙◌, subst}
 use mathlib.Core.Bool.{Bool, true, false, not, ◌&&◌, beq, cond}
 use mathlib.Core.Logic.{inl, inr}
 use mathlib.Core.List.{List, [], ◌∷◌}
-use lib.Pow.{pow_pos}
-use native.Mathlib.Nat.{lt_of_not-le, lt_irrefl, zero-lt-suc, mul-pos, eq-zero-or-pos, le_trans, mul-le-mul, mul-le-mul_right, le_of_mul-le-mul_right}
+use native.Mathlib.Nat.{eq-zero-or-pos, le_trans, mul-le-mul, mul-le-mul_right, le_of_mul-le-mul_right}
 use native.Mathlib.Omega.{arith}
-use lib.Dec.{T, T_not, ltb, leb→le, le→leb, lt→ltb, lit≤}
+use lib.Dec.{T, T_not, ltb, leb→le, le→leb, nltb→le, lit≤}
 use lib.IntN.{nat_abs, ◌-ℤ◌}
 use lib.Ieee.{Float, nan, inf, fin, binary64, of_bits, mul, is_nan, sub, add, sum, round, units, odd, neg, size, span, climb, of_fields, lt, le, eq, fits}
 use lib.Ieee.Bits.{is_true}
@@ -18,13 +17,13 @@ use Rattle.std.specs.Prelude.{Err}
 use Rattle.whole_roots.specs.Roots.{square}
 use Rattle.std.proofs.lemmas.Float.{le_of_not-lt, lt_of_le_of_lt}
 use Rattle.float.proofs.Fields.{finite-value-not-nan}
-use Rattle.float.specs.Exact.{abs, exact, count, negative, shift}
+use Rattle.float.specs.Exact.{abs, exact, count, negative}
 use Rattle.float.specs.Root.{square_root}
 use Rattle.rounding.specs.Number.{Number, one}
 use Rattle.rounding.specs.Error.{Within}
-use Rattle.rounding.proofs.Laws.{add-operands, exact-size, plus-parts, one-pos, sub_is, sub-error, sqrt-root, root-squared, lt-is, le_is}
+use Rattle.rounding.proofs.Laws.{add-operands, exact-size, magnitude-number, magnitude-sign, magnitude-count, one-pos, sub_is, sub-error, sqrt-root, root-squared, root-zero, lt-plain, le-plain}
 use Rattle.checks.proofs.Passed.{never}
-use Rattle.checks.proofs.NearOne.{Positive, positive, one64, one64-positive, one64-count, most64, most64-positive, most64-count, magnitude-number, magnitude-sign, magnitude-count, passes-without-root}
+use Rattle.checks.proofs.NearOne.{Positive, positive, one64, one64-positive, one64-count, most64, most64-positive, most64-count, passes-without-root}
 use Rattle.law.specs.Quaternion.{Quaternion}
 use Rattle.unit_norm.specs.SquaredNorm.{squared_norm}
 use Rattle.unit_norm.proofs.Sums.{tiny, slack, tiny-one, one-tiny, tiny-few, sizes-apart}
@@ -118,16 +117,7 @@ norm-near-one {n} N h =
     record { high = above (count n) one (nat_abs d) b.over small; low = under (count n) one (nat_abs d) b.under small }
   where
     no-larger : {z : Float} → Number z → T (not (lt most64 (abs z))) → count z ≤ count most64
-    no-larger {z} Z h =
-        let p = plus-parts most64 most64-positive.sign in
-        let q = plus-parts (abs z) (magnitude-sign z) in
-        not-less (count most64) (count z) (λ l. T_not (lt most64 (abs z)) h (subst T (sym (lt-is most64-positive.number (magnitude-number Z) ∙ rw (p.0, p.1, q.0, q.1, magnitude-count z) refl)) (lt→ltb _ _ (plus-zero (count most64) (count z) l))))
-      where
-        plus-zero : (a b : ℕ) → a < b → a + 0 < b + 0
-        plus-zero a b h = omega arith
-
-        not-less : (a b : ℕ) → (a < b → ⊥) → b ≤ a
-        not-less a b f = native.Mathlib.Nat.le_of_suc-le-suc (lt_of_not-le f)
+    no-larger {z} Z h = nltb→le _ _ (rw (lt-plain most64-positive.number (magnitude-number Z) most64-positive.sign (magnitude-sign z), magnitude-count z) at h)
 
     within : (d e c m o : ℕ) → d ≤ c + e → 2 ^ 53 * e ≤ d → c ≤ m → 2 ^ 10 * m ≡ o → 512 * d ≤ o
     within d e c m o h k l f = omega arith
@@ -138,20 +128,13 @@ norm-near-one {n} N h =
     under : (n o d : ℕ) → o ≤ n + d → 512 * d ≤ o → 511 * o ≤ 512 * n
     under n o d h k = omega arith
 
--- a root that is finite is one of a finite number, and the root of a zero is that zero
+-- a root that is finite is one of a finite number
 root-finite : (g : Float) → T (finite (square_root g)) → T (finite g)
 unfolding square_root
 root-finite nan t = t
 root-finite (inf true) t = t
 root-finite (inf false) t = t
 root-finite (fin s m e) t = tt
-
-root-zero : (g : Float) → Number g → count g ≡ 0 → square_root g ≡ g
-unfolding square_root count
-root-zero nan G e = absurd G.is_finite
-root-zero (inf s) G e = absurd G.is_finite
-root-zero (fin s zero d) G e = refl
-root-zero (fin s (suc m) d) G e = absurd (lt_irrefl 0 (subst (λ (v : ℕ). 0 < v) e (mul-pos (zero-lt-suc m) (pow_pos (shift d)))))
 
 -- so four binary64 that are accepted are numbers
 factor-finite : (x : Float) → T (finite (mul binary64 x x)) → T (finite x)
@@ -242,13 +225,7 @@ below-most : (m v s t q : ℕ) → (2 ^ 20 + 1) * q ≤ 2 ^ 20 * m → s ≤ q +
 below-most m v s t q h a k e = omega arith
 
 test-le : {x y : Float} → Number x → Number y → negative x ≡ false → negative y ≡ false → count x ≤ count y → le x y ≡ true
-test-le {x} {y} X Y p q h =
-    let a = plus-parts x p in
-    let b = plus-parts y q in
-    le_is X Y ∙ rw (a.0, a.1, b.0, b.1) (is_true _ (le→leb _ _ (plain (count x) (count y) h)))
-  where
-    plain : (a b : ℕ) → a ≤ b → a + 0 ≤ b + 0
-    plain a b h = omega arith
+test-le X Y p q h = le-plain X Y p q ∙ is_true _ (le→leb _ _ h)
 
 pub near-accepted : {q : Quaternion Float} → Numbers q → Within (squared_norm q) (one * one) (128 * tiny) → check_unit_quaternion (coefficients q) tolerance ≡ passed
 unfolding check_unit_quaternion norm_of slack

@@ -1,11 +1,11 @@
 -- The squared norm of a quaternion, exactly, and the rounded sums of the four squares beside it. Assumes nothing.
 use Prim.Native.Nat.{ℕ, ◌+◌, ◌*◌, ◌^◌, ◌≤◌}
 use mathlib.Core.Path.{◌≡◌, refl, sym, ap, ◌∙◌}
-use mathlib.Core.Bool.{Bool, true, false}
+use mathlib.Core.Bool.{false}
 use native.Mathlib.Nat.{le_trans, le_of_eq, mul-le-mul_left, mul-le-mul_right}
 use native.Mathlib.Omega.{arith}
 use lib.IntN.{ℤ, pos, negsuc, nat_abs, ◌+ℤ◌, ◌*ℤ◌, pos-*ℤ-pos, negsuc-*ℤ-negsuc}
-use lib.Ieee.{Float, binary64, unlike, add, mul}
+use lib.Ieee.{Float, binary64, add, mul}
 use lib.Dec.{T, lit≤}
 use lib.Ieee.Fits.{mul-fits, add-fits}
 use lib.Ieee.Scale.{finite}
@@ -13,7 +13,7 @@ use Rattle.whole_roots.specs.Roots.{square}
 use Rattle.float.specs.Exact.{exact, count, negative}
 use Rattle.rounding.specs.Number.{Number, one}
 use Rattle.rounding.specs.Error.{Within}
-use Rattle.rounding.proofs.Laws.{exact-size, mul-sign, mul-error, add-sign, add-error-plus, add-operands}
+use Rattle.rounding.proofs.Laws.{exact-size, mul-sign, mul-error, add-sign, add-error-plus, add-operands, unlike-self}
 use Rattle.law.specs.Arithmetic.{Arithmetic}
 use Rattle.law.specs.Quaternion as Quaternion
 use Rattle.law.specs.Quaternion.{Quaternion}
@@ -76,10 +76,6 @@ pub record FiniteSum (s c : ℕ) (g : Float) : Type 0 where
   pub number : Number g
   pub sign : negative g ≡ false
   pub least : s ≤ c * (count g * one + one)
-
-unlike-self : (s : Bool) → unlike s s ≡ false
-unlike-self true = refl
-unlike-self false = refl
 
 finite-square : {x : Float} → Number x → T (finite (mul binary64 x x)) → FiniteSum (count x * count x) 2 (mul binary64 x x)
 finite-square {x} X t =

@@ -66,6 +66,9 @@ vector a = patterns (Outcomes.vector a)
 abbrev matrix : Result Mat3 Refusal → List ℕ
 matrix a = patterns (Outcomes.matrix a)
 
+abbrev number : Result Float Refusal → List ℕ
+number a = patterns (Outcomes.number a)
+
 abbrev valid : Result Bool Refusal → List ℕ
 valid a = listed (λ (b : Bool). cond b 1 0) (Outcomes.valid a)
 
@@ -196,9 +199,21 @@ bench_list =
     -- the empty chain is the identity; the chain of A and B is A then B
     ∷ says (answer (Calls.chain [] tolerance)) (0 ∷ zero ∷ zero ∷ zero ∷ one ∷ zero ∷ zero ∷ zero ∷ zero ∷ zero ∷ zero ∷ zero ∷ [])
     ∷ says (answer (Calls.chain (A ++ B) tolerance)) (0 ∷ ten ∷ three ∷ four ∷ one ∷ zero ∷ zero ∷ zero ∷ four ∷ two ∷ zero ∷ two_and_a_half ∷ [])
-    -- exp with theta (2 ^ -17, 0, 0): w = 1 - 2 ^ -37, x = 2 ^ -18 * (1 - 2 ^ -37); theta (2 ^ -16, 0, 0): 4
+    -- exp with theta (2 ^ -17, 0, 0): w = 1 - 2 ^ -37, x = 2 ^ -18 * (1 - 2 ^ -37)
     ∷ says (rotation (so3_exp (along_x 0x3ee0_0000_0000_0000))) (0 ∷ 0x3fef_ffff_ffff_0000 ∷ 0x3ecf_ffff_ffff_0000 ∷ zero ∷ zero ∷ [])
-    ∷ says (rotation (so3_exp (along_x 0x3ef0_0000_0000_0000))) (4 ∷ [])
+    -- theta (2 ^ -16, 0, 0) leaves the series; (3, 0, 0) is the largest turn along x: w is cosine 1.5, x is 1.5 * (sine 1.5 / 1.5); the next number: 4
+    ∷ says (rotation (so3_exp (along_x 0x3ef0_0000_0000_0000))) (0 ∷ 0x3fef_ffff_fffc_0000 ∷ 0x3edf_ffff_fffe_aaab ∷ zero ∷ zero ∷ [])
+    ∷ says (rotation (so3_exp (along_x three))) (0 ∷ 0x3fb2_1bd5_4fc5_f9a0 ∷ 0x3fef_eb7a_9b2c_6d8c ∷ zero ∷ zero ∷ [])
+    ∷ says (rotation (so3_exp (along_x 0x4008_0000_0000_0001))) (4 ∷ [])
+    -- an inverse Jacobian refuses theta (2 ^ -16, 0, 0): 4
+    ∷ says (matrix (Rotations.left_jacobian_inv (along_x 0x3ef0_0000_0000_0000))) (4 ∷ zero ∷ zero ∷ zero ∷ zero ∷ zero ∷ zero ∷ zero ∷ zero ∷ zero ∷ [])
+    -- sine and cosine of 1; sine of -0; cosine of 4, and of the next number: 4; sine of an infinity: 2
+    ∷ says (number (Rotations.sine (of_bits binary64 one))) (0 ∷ 0x3fea_ed54_8f09_0cee ∷ [])
+    ∷ says (number (Rotations.cosine (of_bits binary64 one))) (0 ∷ 0x3fe1_4a28_0fb5_068b ∷ [])
+    ∷ says (number (Rotations.sine (of_bits binary64 minus_zero))) (0 ∷ minus_zero ∷ [])
+    ∷ says (number (Rotations.cosine (of_bits binary64 four))) (0 ∷ 0xbfe4_eaa6_06db_24c0 ∷ [])
+    ∷ says (number (Rotations.cosine (of_bits binary64 0x4010_0000_0000_0001))) (4 ∷ [])
+    ∷ says (number (Rotations.sine (of_bits binary64 0x7ff0_0000_0000_0000))) (2 ∷ [])
     -- log tests the half angle: (1, 2 ^ -17, 0, 0) is answered, and with w below zero by -2; its Jacobian tests the whole angle as well: 4, all +0
     ∷ says (tangent (so3_log (near one) tolerance)) (0 ∷ 0x3eef_ffff_fffc_0000 ∷ zero ∷ zero ∷ [])
     ∷ says (tangent (so3_log (near minus_one) tolerance)) (0 ∷ 0xbeef_ffff_fffc_0000 ∷ minus_zero ∷ minus_zero ∷ [])
@@ -219,7 +234,9 @@ bench_list =
     -- SGal3's exp with the same thetas as SO3's
     ∷ says (answer (sgal3_exp (turn_x 0x3ee0_0000_0000_0000)))
     (0 ∷ zero ∷ zero ∷ zero ∷ 0x3fef_ffff_ffff_0000 ∷ 0x3ecf_ffff_ffff_0000 ∷ zero ∷ zero ∷ zero ∷ zero ∷ zero ∷ zero ∷ [])
-    ∷ says (answer (sgal3_exp (turn_x 0x3ef0_0000_0000_0000))) (4 ∷ [])
+    ∷ says (answer (sgal3_exp (turn_x 0x3ef0_0000_0000_0000)))
+    (0 ∷ zero ∷ zero ∷ zero ∷ 0x3fef_ffff_fffc_0000 ∷ 0x3edf_ffff_fffe_aaab ∷ zero ∷ zero ∷ zero ∷ zero ∷ zero ∷ zero ∷ [])
+    ∷ says (answer (sgal3_exp (turn_x 0x4008_0000_0000_0001))) (4 ∷ [])
     -- q = (1, 2 ^ -17, 0, 0): SGal3's log refuses 4, since it tests the squared theta of its own answer as well
     ∷ says (galilean_tangent (sgal3_log (floats (zero ∷ zero ∷ zero ∷ one ∷ 0x3ee0_0000_0000_0000 ∷ zero ∷ zero ∷ zero ∷ zero ∷ zero ∷ zero ∷ [])) tolerance)) (4 ∷ [])
     -- SGal3's is_valid of [0, 0, 0 | 2, 0, 0, 0 | 0, 0, 0 | 0] with 1e-6: yes; with tolerance 0: no

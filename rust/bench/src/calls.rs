@@ -74,7 +74,7 @@ fn exp(block: &[f64], out: &mut [u8; OUTCOME]) -> usize {
         return refuse(2, out);
     }
     let tangent = SGal3Tangent::from_slice(block);
-    if tangent.theta().norm_squared() > SMALL_ANGLE_THRESHOLD {
+    if tangent.theta().norm_squared() > 9.0 {
         return refuse(4, out);
     }
     finish(tangent.exp(None).as_param_slice(), out)

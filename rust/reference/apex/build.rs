@@ -1,62 +1,35 @@
-//! Copies error.rs, lib.rs, sgal3.rs, so3.rs and util.rs of docs/src to the build's own folder, unchanged, so that
-//! nothing of them stands in the repository. Of lib.rs the lines `pub mod NAME;` are left out whose NAME is none of
-//! the five; nothing else is.
-//!
-//! They are looked for in the folder that the environment variable APEX_SRC names, or else in `shared` beside the
-//! repository's clone.
-use std::path::{Path, PathBuf};
-use std::{env, fs};
+//! Copies docs/src to the build's own folder with our sine and cosine in the place of the machine's, and with nothing
+//! else changed.
 
-const FILES: [&str; 5] = ["error", "lib", "sgal3", "so3", "util"];
-/// From the folder of the workspace, `rust/reference`.
-const DEFAULT: &str = "../../../shared/docs/src/crates/apex-manifolds/src";
+mod docs_src;
+
+use docs_src::Replacement;
+
+/// Every place where docs/src takes the sine or the cosine of a number, itself or within `from_scaled_axis`. Its
+/// constructors from an axis or from Euler angles and slerp take them elsewhere: no compared call uses these.
+#[rustfmt::skip]
+const REPLACEMENTS: [Replacement; 5] = [
+    Replacement { file: "so3", old: "theta.sin()", new: "trigonometry::sine(theta)", times: 2 },
+    Replacement { file: "so3", old: "theta.cos()", new: "trigonometry::cosine(theta)", times: 2 },
+    Replacement { file: "so3", old: "UnitQuaternion::from_scaled_axis(", new: SCALED_AXIS, times: 3 },
+    Replacement { file: "sgal3", old: "w.sin()", new: "trigonometry::sine(w)", times: 1 },
+    Replacement { file: "sgal3", old: "w.cos()", new: "trigonometry::cosine(w)", times: 1 },
+];
+const SCALED_AXIS: &str =
+    "UnitQuaternion::from_scaled_axis_by(trigonometry::sine, trigonometry::cosine, ";
+
+/// Other ways to take one, in any of the files.
+const ABSENT: [&str; 8] = [
+    ".sin()",
+    ".cos()",
+    ".tan()",
+    "f64::sin",
+    "f64::cos",
+    "f64::tan",
+    "sin_cos",
+    "UnitQuaternion::from_scaled_axis(",
+];
 
 fn main() {
-    println!("cargo:rerun-if-env-changed=APEX_SRC");
-    println!("cargo:rerun-if-changed=build.rs");
-    let here = PathBuf::from(env::var("CARGO_MANIFEST_DIR").unwrap());
-    let from = here
-        .parent()
-        .unwrap()
-        .join(env::var("APEX_SRC").unwrap_or(DEFAULT.into()));
-    let to = PathBuf::from(env::var("OUT_DIR").unwrap());
-    for name in FILES {
-        let path = source(&from, name);
-        println!("cargo:rerun-if-changed={}", path.display());
-        let mut text = fs::read_to_string(&path).unwrap_or_else(|e| {
-            panic!(
-                "{}: {e} (APEX_SRC names the folder of docs/src)",
-                path.display()
-            )
-        });
-        if name == "lib" {
-            text = text
-                .split_inclusive('\n')
-                .filter(|line| !absent(line))
-                .collect();
-        }
-        fs::write(to.join(format!("{name}.rs")), text).unwrap();
-    }
-    let root = to.join("lib.rs");
-    fs::write(
-        to.join("root.rs"),
-        format!("#[path = {root:?}]\nmod docs_src;\npub use docs_src::*;\n"),
-    )
-    .unwrap();
-}
-
-/// NAME.rs, or under the flat names in which the documents stand: src--crates--apex-manifolds--src--NAME.rs.txt.
-fn source(from: &Path, name: &str) -> PathBuf {
-    let flat = from.join(format!("src--crates--apex-manifolds--src--{name}.rs.txt"));
-    if flat.exists() {
-        flat
-    } else {
-        from.join(format!("{name}.rs"))
-    }
-}
-
-fn absent(line: &str) -> bool {
-    line.strip_prefix("pub mod ")
-        .and_then(|rest| rest.trim_end().strip_suffix(';'))
-        .is_some_and(|name| !FILES.contains(&name))
+    docs_src::copy(&REPLACEMENTS, &ABSENT);
 }

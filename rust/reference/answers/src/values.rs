@@ -2,7 +2,7 @@
 
 use apex::sgal3::{Matrix10, SGal3, SGal3Tangent};
 use apex::so3::{SO3, SO3Tangent};
-use apex::{LieGroup, Tangent};
+use apex::{LieGroup, Tangent, sines};
 use nalgebra::{Matrix3, Quaternion, SMatrix, UnitQuaternion, Vector3};
 use requests::calls::Answer;
 use requests::{CALLS, Call, Request, refusals};
@@ -38,6 +38,11 @@ pub fn so3_tangent(block: &[u64]) -> SO3Tangent {
 
 pub fn sgal3_tangent(block: &[u64]) -> SGal3Tangent {
     SGal3Tangent::from_slice(&values::<10>(block))
+}
+
+pub fn number(block: &[u64]) -> f64 {
+    let [x] = values(block);
+    x
 }
 
 fn vector(block: &[u64]) -> Vector3<f64> {
@@ -234,6 +239,9 @@ const FUNCTIONS: &[(&str, Function)] = &[
     ("so3_minus", |x, to| list(to, rotation(&x.first).minus(&rotation(&x.second), None, None).as_slice())),
     ("so3_minus_jacobian_self", |x, to| jacobian3(to, |j| rotation(&x.first).minus(&rotation(&x.second), j, None))),
     ("so3_minus_jacobian_other", |x, to| jacobian3(to, |j| rotation(&x.first).minus(&rotation(&x.second), None, j))),
+    // ---- numbers: these two aren't docs/src's own
+    ("sine", |x, to| list(to, &[sines::sine(number(&x.first))])),
+    ("cosine", |x, to| list(to, &[sines::cosine(number(&x.first))])),
     // ---- SGal(3): elements
     ("sgal3_compose", |x, to| sgal3(to, element(&x.first).compose(&element(&x.second), None, None))),
     ("sgal3_inverse", |x, to| sgal3(to, element(&x.first).inverse(None))),

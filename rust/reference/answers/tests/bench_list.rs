@@ -127,7 +127,7 @@ fn order_of_the_refusals() {
     );
     let mut plus = refused(Refusal::NotUnit { norm: 2.0 });
     plus.values = vec![0; 9];
-    let asked_plus = request("so3_plus_jacobian_self", &two, &[1.0; 3]);
+    let asked_plus = request("so3_plus_jacobian_self", &two, &[2.0; 3]);
     assert_eq!(asked(&asked_plus), plus);
 }
 

@@ -1,5 +1,8 @@
-//! What the programs `compare`, `draw` and `sample` share: random requests with the reference's answers, counts of outcomes by call, and
-//! a request and an outcome in words.
+//! What the programs `compare`, `agree`, `draw` and `sample` share: random requests with the reference's answers, counts of outcomes by call,
+//! distances between answers, a program that is asked, and a request and an outcome in words.
+
+pub mod distances;
+pub mod program;
 
 use requests::generators::Generator;
 use requests::refusals::NUMBERS;

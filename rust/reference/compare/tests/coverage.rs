@@ -1,9 +1,10 @@
 //! Random requests meet every outcome that a call can have, and no other; both written forms are read back as they were.
 
 use compare::{Counts, Drawn};
-use requests::refusals::TOLERANCE;
-use requests::{CALLS, Call, Outcome, Request};
-use std::collections::BTreeSet;
+use requests::calls::Turn;
+use requests::refusals::{EXP_LIMIT, NUMBER_LIMIT, SERIES_LIMIT, TOLERANCE};
+use requests::{CALLS, Call, Outcome, Request, turning};
+use std::collections::{BTreeMap, BTreeSet};
 use std::process::{Command, Stdio};
 
 #[test]
@@ -15,6 +16,41 @@ fn every_outcome_of_every_call() {
         counts.add(drawn.request.number, drawn.outcome.number);
     }
     assert_eq!(counts.unexpected(), Vec::<String>::new());
+}
+
+/// Every call that takes sines is accepted with turns that a series would do for, with some beyond it, with large ones and with
+/// one at its limit, and refused just above that.
+#[test]
+fn turns_of_every_size() {
+    let mut drawn = Drawn::new(4);
+    let mut met: BTreeMap<u64, BTreeSet<&str>> = BTreeMap::new();
+    for _ in 0..400_000 {
+        drawn.draw();
+        let turn = drawn.request.call().turn;
+        let limit = match turn {
+            Turn::Exp => EXP_LIMIT,
+            Turn::Number => NUMBER_LIMIT * NUMBER_LIMIT,
+            _ => continue,
+        };
+        let Some(square) = turning::square(&drawn.request) else {
+            continue;
+        };
+        let size = match (drawn.outcome.number, square / limit) {
+            (0, 1.0) => "at the limit",
+            (0, ..1e-30) => "tiny",
+            (0, 0.25..) => "large",
+            (0, _) if square > SERIES_LIMIT => "beyond the series",
+            (0, _) => "of the series",
+            (4, 1.0..1.00001) => "just above",
+            (4, _) => "above",
+            _ => continue,
+        };
+        met.entry(drawn.request.number).or_default().insert(size);
+    }
+    for call in turning::calls() {
+        let sizes = met.get(&call.number).map_or(0, BTreeSet::len);
+        assert_eq!(sizes, 7, "{}: {:?}", call.name, met.get(&call.number));
+    }
 }
 
 /// Every call that takes a tolerance is accepted with norms that 1e-6 refuses, and refused with norms that it accepts.

@@ -392,8 +392,17 @@ impl Unit<Quaternion<f64>> {
             .copy_from(&self.to_rotation_matrix().into_inner());
         m
     }
-    /// [unreached] cos and sin of half the angle: every call refuses 4 where it would come here.
+    /// Over the machine's sine and cosine.
     pub fn from_scaled_axis(v: Vector3<f64>) -> Self {
+        Self::from_scaled_axis_by(f64::sin, f64::cos, v)
+    }
+    /// Over any sine and cosine; nalgebra itself has no such function.
+    /// [textbook] half the angle is the norm of the halves; its sine is divided by it before the product, and nothing is normalised.
+    pub fn from_scaled_axis_by(
+        sine: impl Fn(f64) -> f64,
+        cosine: impl Fn(f64) -> f64,
+        v: Vector3<f64>,
+    ) -> Self {
         let h = v / 2.0;
         let n = h.norm();
         if n <= f64::EPSILON {
@@ -401,9 +410,9 @@ impl Unit<Quaternion<f64>> {
                 value: Quaternion::new(1.0, 0.0, 0.0, 0.0),
             };
         }
-        let u = h * (n.sin() / n);
+        let u = h * (sine(n) / n);
         Unit {
-            value: Quaternion::new(n.cos(), u.x, u.y, u.z),
+            value: Quaternion::new(cosine(n), u.x, u.y, u.z),
         }
     }
     /// [unreached]

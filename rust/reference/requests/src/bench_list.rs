@@ -1,7 +1,7 @@
 //! The scope's bench list, as requests with the outcomes that it states, written out by hand. Of its lines only the
 //! text that the program `chain` prints can't be asked here.
 //!
-//! Beside it: inputs at which another order of operations shows, turns at the limit, tolerances at the ends of their
+//! Beside it: inputs at which another order of operations shows, turns at a limit, tolerances at the ends of their
 //! range, and adjoints that overflow.
 
 use crate::Refusal;
@@ -212,12 +212,14 @@ pub fn lines() -> Vec<Line> {
         &[],
         accepted(&turned([w, x, 0.0, 0.0])),
     );
+    // The cosine of 2^-17 is 1 - 2^-35 and a little, its sine 2^-17 - 2^-51 / 6, rounded.
+    let (w, x) = (1.0 - power(-35), f64::from_bits(0x3edf_ffff_fffe_aaab));
     line(
         "exp of theta (2^-16, 0, 0)",
         "so3_exp",
         &[power(-16), 0.0, 0.0],
         &[],
-        refused(Refusal::Turn),
+        accepted(&[w, x, 0.0, 0.0]),
     );
     tangent[6] = power(-16);
     line(
@@ -225,7 +227,7 @@ pub fn lines() -> Vec<Line> {
         "sgal3_exp",
         &tangent,
         &[],
-        refused(Refusal::Turn),
+        accepted(&turned([w, x, 0.0, 0.0])),
     );
 
     let tangent = [1.0, 0.0, 0.0, 0.0, 2.0, 0.0, 0.0, 0.0, 0.0, 3.0];
@@ -348,6 +350,58 @@ pub fn orders() -> Vec<Order> {
     order(says, "so3_inverse", &seventh, &[], 0, 0x3fd2_4924_9249_2492);
     let says = "the Jacobian adds at all nine places";
     order(says, "so3_left_jacobian", &[0.0; 3], &[], 1, 0);
+    let says = "exp's values by the quotient of the sine and the half angle";
+    order(
+        says,
+        "so3_exp",
+        &[1.5, 0.0, 0.0],
+        &[],
+        1,
+        0x3fe5_cffc_16bf_8f0e,
+    );
+    order(says, "so3_exp", &[1.0; 3], &[], 1, 0x3fdc_25b8_ac5d_d03f);
+    let says = "exp's quaternion isn't normalised";
+    order(
+        says,
+        "so3_exp",
+        &[2.0, 0.0, 0.0],
+        &[],
+        0,
+        0x3fe1_4a28_0fb5_068b,
+    );
+    let says = "the Jacobian's divisor is the squared angle times the angle";
+    order(
+        says,
+        "so3_left_jacobian",
+        &[1.0; 3],
+        &[],
+        1,
+        0xbfcf_2a18_f345_2ece,
+    );
+    let says = "hat by its factor, and then by hat";
+    let theta = [0.2, 0.0, 0.0];
+    order(
+        says,
+        "so3_left_jacobian",
+        &theta,
+        &[],
+        4,
+        0x3fef_c97e_ec0d_476b,
+    );
+    // With no rho and the time 1, the translation is a column of M.
+    let mut column = |says, column: usize, theta: [f64; 3], place, bits| {
+        let mut tangent = [0.0; 10];
+        tangent[3 + column] = 1.0;
+        tangent[6..9].copy_from_slice(&theta);
+        tangent[9] = 1.0;
+        order(says, "sgal3_exp", &tangent, &[], place, bits);
+    };
+    let says = "M's first divisor is the angle's third power";
+    column(says, 1, [1.0; 3], 0, 0xbfbb_0ccc_3363_1e36);
+    let says = "M's second dividend from the left";
+    column(says, 1, [1.0, 0.0, 0.0], 1, 0x3fdd_6baf_e095_f2e8);
+    let says = "M's square of hat by its factor";
+    column(says, 0, [2.0, 1.4, 0.0], 0, 0x3fdb_b54b_95ba_84e3);
     let says = "a Jacobian that is a negated adjoint is opened before it is negated";
     order(says, "sgal3_inverse_jacobian", &IDENTITY, &[], 30, 1 << 63);
     order(
@@ -400,56 +454,82 @@ pub fn adjoints() -> Vec<Limit> {
     list
 }
 
-/// A turn at the limit, a tolerance or an adjoint, with the number of its outcome.
+/// A turn at a limit, a tolerance or an adjoint, with the number of its outcome.
 pub struct Limit {
     pub says: &'static str,
     pub request: Request,
     pub number: u64,
 }
 
-/// Turns whose squared angle is the limit, or a neighbour of it.
+/// Turns whose squared angle is a limit, or a neighbour of it, and numbers of which sine and cosine are taken.
+#[rustfmt::skip]
 pub fn limits() -> Vec<Limit> {
+    const LARGEST_OF_SERIES: u64 = 0x3ee4_f8b5_88e3_68f0;
     let mut list = Vec::new();
     let mut limit = |says, name, first: &[u64], number| {
-        let mut request = request(name, &[], &[]);
-        request.first = first.to_vec();
-        list.push(Limit {
-            says,
-            request,
-            number,
-        });
+        let request = Request { first: first.to_vec(), ..request(name, &[], &[]) };
+        list.push(Limit { says, request, number });
     };
-    let says = "inside, unless the squares are added from the right";
-    let theta = [
-        0x3ee0_05a6_75f6_0b21,
-        0x3eda_c4d3_f642_97ab,
-        0xbeaf_d1b7_0832_98a9,
-    ];
-    limit(says, "so3_exp", &theta, 0);
-    let says = "the squared angle is the limit";
-    let theta = [0x3ee2_ab4a_356c_e8f8, 0x3ed3_1b64_0888_66aa, 0];
-    limit(says, "so3_exp", &theta, 0);
-    limit(says, "so3_left_jacobian_inv", &theta, 0);
-    let says = "the largest theta inside on one axis";
-    limit(says, "so3_exp", &[0x3ee4_f8b5_88e3_68f0, 0, 0], 0);
-    let says = "the smallest theta outside on one axis";
-    limit(says, "so3_exp", &[0x3ee4_f8b5_88e3_68f1, 0, 0], 4);
+    for name in ["so3_left_jacobian_inv", "so3_right_jacobian_inv"] {
+        let says = "inside, unless the squares are added from the right";
+        let theta = [0x3ee0_05a6_75f6_0b21, 0x3eda_c4d3_f642_97ab, 0xbeaf_d1b7_0832_98a9];
+        limit(says, name, &theta, 0);
+        let says = "the squared angle is the limit";
+        let theta = [0x3ee2_ab4a_356c_e8f8, 0x3ed3_1b64_0888_66aa, 0];
+        limit(says, name, &theta, 0);
+        let says = "the largest theta inside on one axis";
+        limit(says, name, &[LARGEST_OF_SERIES, 0, 0], 0);
+        let says = "the smallest theta outside on one axis";
+        limit(says, name, &[LARGEST_OF_SERIES + 1, 0, 0], 4);
+    }
+    // On both sides of the series' limit exp is accepted, and its own limit is 9.
+    let further = |value: f64| f64::from_bits(value.to_bits() + 1);
+    let of_series = f64::from_bits(LARGEST_OF_SERIES);
+    for (says, theta, number) in [
+        ("the largest theta of the series on one axis", [of_series, 0.0, 0.0], 0),
+        ("the smallest theta beyond it", [further(of_series), 0.0, 0.0], 0),
+        ("the squared angle is 9", [3.0, 0.0, 0.0], 0),
+        ("the squared angle is 9", [-1.0, 2.0, -2.0], 0),
+        ("the smallest theta outside on one axis", [0.0, 0.0, further(3.0)], 4),
+        ("inside, unless the squares are added from the right", [1.36, 1.52, 2.2], 0),
+        ("outside, unless the squares are added from the right", [2.2, 1.36, 1.52], 4),
+        ("the squared angle overflows", [0.0, -f64::MAX, 0.0], 4),
+    ] {
+        let theta = bits(&theta);
+        for name in ["so3_exp", "so3_exp_jacobian", "so3_left_jacobian", "so3_right_jacobian"] {
+            limit(says, name, &theta, number);
+        }
+        let mut tangent = vec![0; 10];
+        tangent[6..9].copy_from_slice(&theta);
+        limit(says, "sgal3_exp", &tangent, number);
+        // With these the translation overflows, and 4 comes before 5.
+        for place in [0, 3, 9] {
+            tangent[place] = f64::MAX.to_bits();
+        }
+        limit(says, "sgal3_exp", &tangent, if number == 4 { 4 } else { 5 });
+    }
+    for name in ["sine", "cosine"] {
+        for (says, x, number) in [
+            ("the largest number", 4.0, 0),
+            ("the largest number", -4.0, 0),
+            ("the next number", further(4.0), 4),
+            ("the next number", further(-4.0), 4),
+            ("the largest finite number", f64::MAX, 4),
+            ("an infinity", f64::NEG_INFINITY, 2),
+            ("no number", f64::NAN, 2),
+            ("a zero", 0.0, 0),
+            ("a zero", -0.0, 0),
+            ("the least number", -5e-324, 0),
+        ] {
+            limit(says, name, &bits(&[x]), number);
+        }
+    }
     let says = "the half angle is at the limit";
-    let half = [
-        0x3fef_ffff_fff9_20c8,
-        0xbeb8_fc14_cc0c_d4c5,
-        0x3e63_e91c_0d1f_e4de,
-        0xbee4_bcce_6bee_5d54,
-    ];
+    let half = [0x3fef_ffff_fff9_20c8, 0xbeb8_fc14_cc0c_d4c5, 0x3e63_e91c_0d1f_e4de, 0xbee4_bcce_6bee_5d54];
     limit(says, "so3_log", &half, 0);
     limit(says, "so3_log_jacobian", &half, 4);
     let says = "inside when normalised once, outside when normalised twice";
-    let angle = [
-        0x3ff0_0000_94ff_2419,
-        0xbeca_8153_cd46_26f6,
-        0x3ed0_40e0_ad82_201e,
-        0,
-    ];
+    let angle = [0x3ff0_0000_94ff_2419, 0xbeca_8153_cd46_26f6, 0x3ed0_40e0_ad82_201e, 0];
     limit(says, "so3_log_jacobian", &angle, 0);
     let mut element = bits(&IDENTITY);
     element[3..7].copy_from_slice(&angle);
@@ -515,7 +595,7 @@ pub fn tolerances() -> Vec<Limit> {
     limit("2 of a tangent before 7", bad, "so3_plus", &one, &[f64::NAN; 3], 2);
     limit("7 before 3", bad, "sgal3_compose", &double, &A, 7);
     limit("7 before 3", bad, "sgal3_chain", &[A, double].concat(), &[], 7);
-    limit("7 before 4", bad, "so3_plus", &one, &[1.0, 0.0, 0.0], 7);
+    limit("7 before 4", bad, "so3_plus", &one, &[4.0, 0.0, 0.0], 7);
     limit("7 before 5", bad, "sgal3_compose", &late, &late, 7);
     limit("7 before 5", bad, "sgal3_chain", &[late, late].concat(), &[], 7);
 

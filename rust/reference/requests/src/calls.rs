@@ -22,6 +22,8 @@ pub enum Block {
     AnyElement,
     /// Four values of which only the length is checked.
     AnyRotation,
+    /// A number, of which sine or cosine is taken.
+    Number,
 }
 
 impl Block {
@@ -33,6 +35,7 @@ impl Block {
             Block::Rotation | Block::AnyRotation => 4,
             Block::Sgal3Tangent => 10,
             Block::So3Tangent | Block::Vector => 3,
+            Block::Number => 1,
         }
     }
 
@@ -108,17 +111,21 @@ pub enum Of {
     LeftMinus,
 }
 
-/// Which tests of the series branch a call makes: refusal 4 is that one of them is left.
+/// What a call tests of a turn, and against which limit: refusal 4 is that one of these is above it.
 #[derive(Clone, Copy, Debug, PartialEq, Eq)]
 pub enum Turn {
-    /// None.
+    /// Nothing.
     Untested,
-    /// The squared angle of the tangent, which is the last block.
+    /// The squared angle of the tangent, which is the last block, against 9.
     Exp,
-    /// The squared sine of the half angle.
+    /// The squared angle of the tangent, against the series branch's limit.
+    Series,
+    /// The squared sine of the half angle, against the series branch's limit.
     Log(Of),
     /// The same, and the squared angle of the logarithm.
     LogAndAngle(Of),
+    /// The magnitude of the number, against 4.
+    Number,
 }
 
 /// One call.
@@ -149,9 +156,9 @@ impl Call {
         }
     }
 
-    /// Whether the blocks are separate arguments of the call, so that no length can be wrong.
+    /// Whether the values are separate arguments of the call, so that no length can be wrong.
     pub fn has_fixed_length(&self) -> bool {
-        self.number == TRY_FROM_QUATERNION
+        self.number == TRY_FROM_QUATERNION || self.first == Block::Number
     }
 
     /// Whether a block is an element or a rotation that is checked, and so held to a tolerance of the caller's.
@@ -159,6 +166,11 @@ impl Call {
         [self.first, self.second]
             .iter()
             .any(|b| b.is_checked() && b.quaternion().is_some())
+    }
+
+    /// Whether the call takes sines: that of a number, or those of a turn up to a squared angle of 9.
+    pub fn takes_sines(&self) -> bool {
+        matches!(self.turn, Turn::Exp | Turn::Number)
     }
 
     /// Whether the extra word is a tolerance. is_valid's is its own: any is taken.
@@ -210,7 +222,7 @@ const fn entry(
 use Answer as A;
 use Block as B;
 use Of::{First, LeftMinus, RightMinus};
-use Turn::{Exp, Log, LogAndAngle, Untested};
+use Turn::{Exp, Log, LogAndAngle, Series, Untested};
 
 /// Every call, by rising number.
 #[rustfmt::skip]
@@ -241,8 +253,8 @@ pub const CALLS: &[Call] = &[
     entry(27, "so3_exp_jacobian", B::So3Tangent, B::Absent, MATRIX3, Exp, SAFE),
     entry(28, "so3_left_jacobian", B::So3Tangent, B::Absent, MATRIX3, Exp, SAFE),
     entry(29, "so3_right_jacobian", B::So3Tangent, B::Absent, MATRIX3, Exp, SAFE),
-    entry(30, "so3_left_jacobian_inv", B::So3Tangent, B::Absent, MATRIX3, Exp, SAFE),
-    entry(31, "so3_right_jacobian_inv", B::So3Tangent, B::Absent, MATRIX3, Exp, SAFE),
+    entry(30, "so3_left_jacobian_inv", B::So3Tangent, B::Absent, MATRIX3, Series, SAFE),
+    entry(31, "so3_right_jacobian_inv", B::So3Tangent, B::Absent, MATRIX3, Series, SAFE),
     entry(32, "so3_hat", B::So3Tangent, B::Absent, MATRIX3, Untested, SAFE),
     entry(33, "so3_small_adj", B::So3Tangent, B::Absent, MATRIX3, Untested, SAFE),
     entry(34, "so3_lie_bracket", B::So3Tangent, B::So3Tangent, A::So3Tangent, Untested, OVERFLOWS),
@@ -273,6 +285,9 @@ pub const CALLS: &[Call] = &[
     entry(58, "so3_minus", B::Rotation, B::Rotation, A::So3Tangent, Log(RightMinus), SAFE),
     entry(59, "so3_minus_jacobian_self", B::Rotation, B::Rotation, MATRIX3, LogAndAngle(RightMinus), SAFE),
     entry(60, "so3_minus_jacobian_other", B::Rotation, B::Rotation, MATRIX3, LogAndAngle(RightMinus), SAFE),
+    // ---- numbers
+    entry(61, "sine", B::Number, B::Absent, A::Number, Turn::Number, SAFE),
+    entry(62, "cosine", B::Number, B::Absent, A::Number, Turn::Number, SAFE),
     // ---- SGal(3): elements
     entry(70, "sgal3_compose", B::Element, B::Element, A::Element, Untested, OVERFLOWS),
     entry(71, "sgal3_inverse", B::Element, B::Absent, A::Element, Untested, OVERFLOWS),

@@ -12,7 +12,7 @@
 //! (a matrix, coefficients): there all values follow, each +0.
 
 use crate::Refusal;
-use crate::calls::{Call, call};
+use crate::calls::{Block, Call, call};
 use std::io::{Error, ErrorKind, Read, Result};
 
 /// The most values that the blocks of one request have together.
@@ -33,6 +33,21 @@ impl Request {
     /// The call that the number names.
     pub fn call(&self) -> &'static Call {
         call(self.number).expect("a request names a call of the list")
+    }
+
+    /// The theta of the tangent, which is the last block; none where there is no tangent, or one of a wrong length.
+    pub fn theta(&self) -> Option<[f64; 3]> {
+        let call = self.call();
+        let (block, values) = match call.second {
+            Block::Absent => (call.first, &self.first),
+            second => (second, &self.second),
+        };
+        let theta: [u64; 3] = match block {
+            Block::So3Tangent => values[..].try_into().ok()?,
+            Block::Sgal3Tangent if values.len() == 10 => values[6..9].try_into().ok()?,
+            _ => return None,
+        };
+        Some(theta.map(f64::from_bits))
     }
 
     /// Writes the request behind what is there.

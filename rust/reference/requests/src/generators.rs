@@ -6,10 +6,11 @@ use crate::calls::{Answer, Block, CALLS, Call, Turn};
 use crate::format::{MOST_VALUES, Outcome, Request};
 use crate::random::{Random, nudge};
 use crate::refusals;
+use std::f64::consts::FRAC_PI_2;
 
 /// How many answers of a kind are kept for later inputs.
 const KEPT: usize = 64;
-/// The largest theta on one axis whose square is within the limit.
+/// The largest theta on one axis whose square is within the series' limit.
 const LARGEST_ON_AXIS: u64 = 0x3ee4_f8b5_88e3_68f0;
 
 /// Draws requests from a seed.
@@ -17,6 +18,8 @@ pub struct Generator {
     random: Random,
     /// The tolerance that the norms of this request are drawn for.
     tolerance: f64,
+    /// Whether its call accepts turns up to a squared angle of 9.
+    turns: bool,
     elements: Kept<11>,
     rotations: Kept<4>,
     sgal3_tangents: Kept<10>,
@@ -50,6 +53,7 @@ impl Generator {
         Generator {
             random: Random(seed),
             tolerance: refusals::TOLERANCE,
+            turns: false,
             elements: Kept::new([0.0, 0.0, 0.0, 1.0, 0.0, 0.0, 0.0, 0.0, 0.0, 0.0, 0.0]),
             rotations: Kept::new([1.0, 0.0, 0.0, 0.0]),
             sgal3_tangents: Kept::new([0.0; 10]),
@@ -76,6 +80,7 @@ impl Generator {
             true => self.permitted(),
             false => refusals::TOLERANCE,
         };
+        self.turns = call.turn == Turn::Exp;
         let extreme = self.random.once_in(4);
         let small = call.turn != Turn::Untested && !self.random.once_in(4);
         let near = matches!(call.turn, Turn::Log(_) | Turn::LogAndAngle(_))
@@ -114,8 +119,8 @@ impl Generator {
         }
     }
 
-    /// A block that is accepted, or nearly. `small` asks for a turn near the limit, `extreme` allows values
-    /// whose squares or sums overflow.
+    /// A block that is accepted, or nearly. `small` asks for a turn within the limit or near it, `extreme` allows
+    /// values whose squares or sums overflow.
     fn fill(&mut self, block: Block, small: bool, extreme: bool, to: &mut Vec<u64>) {
         match block {
             Block::Absent => {}
@@ -135,6 +140,10 @@ impl Generator {
             Block::Vector => {
                 let vector = self.vector(extreme);
                 put(to, vector);
+            }
+            Block::Number => {
+                let number = self.number();
+                put(to, [number]);
             }
             Block::Chain => {
                 let count = self.chain_length();
@@ -213,28 +222,37 @@ impl Generator {
         })
     }
 
-    /// A vector of length 1, or nearly: any direction, an axis, or a plane.
-    fn direction(&mut self) -> [f64; 3] {
+    /// A number of which sine or cosine is taken: up to 4, or nearly, and sometimes any.
+    fn number(&mut self) -> f64 {
         let r = &mut self.random;
-        let axis = r.below(3);
-        let mut direction = match r.below(4) {
-            0 => [(); 3].map(|()| r.zero()),
-            1 => {
-                let mut plane = [(); 3].map(|()| r.signed());
-                plane[(axis + 1) % 3] = r.zero();
-                plane
+        match r.below(16) {
+            0 => r.zero(),
+            1 => r.subnormal(),
+            2 => r.tiny(),
+            3 | 4 => r.with_exponent(-60, 1),
+            5..=7 => {
+                let near = nudge(refusals::NUMBER_LIMIT, r.below(3) as i64 - 1);
+                r.sign(near)
             }
-            _ => [(); 3].map(|()| r.signed()),
-        };
-        if direction.iter().all(|value| value.abs() < 0.01) {
-            direction[axis] = r.sign(1.0);
+            // where one of the two is nearly zero
+            8 => {
+                let quarters = 1.0 + r.below(2) as f64;
+                let near = nudge(quarters * FRAC_PI_2, r.below(17) as i64 - 8);
+                r.sign(near)
+            }
+            9 => r.signed() * 16.0,
+            10 => r.ordinary(),
+            11 if r.once_in(2) => r.huge(),
+            11 => r.finite(),
+            _ => r.signed() * refusals::NUMBER_LIMIT,
         }
-        let norm = refusals::norm([0.0, direction[0], direction[1], direction[2]]);
-        direction.map(|value| value / norm)
     }
 
     fn theta(&mut self, small: bool, extreme: bool) -> [f64; 3] {
-        let direction = self.direction();
+        if self.turns && small && !self.random.once_in(4) {
+            return self.turning_theta();
+        }
+        let direction = self.random.direction();
         let kinds = match (small, extreme) {
             (true, _) => 10,
             (_, false) => 13,
@@ -264,10 +282,28 @@ impl Generator {
             13 | 14 => return [(); 3].map(|()| r.huge()),
             _ => return [(); 3].map(|()| r.finite()),
         };
-        let place = r.below(3);
-        let mut theta = direction.map(|value| value * size);
-        theta[place] = nudge(theta[place], r.below(7) as i64 - 3);
-        theta
+        r.near(direction.map(|value| value * size))
+    }
+
+    /// A theta whose squared angle is at most 9, or nearly: most of them outside the series.
+    fn turning_theta(&mut self) -> [f64; 3] {
+        const MOST: f64 = 3.0;
+        let direction = self.random.direction();
+        let r = &mut self.random;
+        let size = match r.below(8) {
+            0..=2 => MOST * r.unit(),
+            3 => r.with_exponent(-17, 1).abs().min(MOST),
+            4 => MOST * r.about_one(),
+            // a squared angle of 9 that no operation rounds
+            5 | 6 => {
+                let mut theta = r.pick(&[[MOST, 0.0, 0.0], [1.0, 2.0, 2.0]]);
+                theta.rotate_left(r.below(3));
+                let theta = theta.map(|value| r.sign(value));
+                return r.near(theta);
+            }
+            _ => return r.pick(&self.so3_tangents.values).map(f64::from_bits),
+        };
+        r.near(direction.map(|value| value * size))
     }
 
     fn quaternion(&mut self, small: bool) -> [f64; 4] {
@@ -341,7 +377,7 @@ impl Generator {
 
     /// A quaternion whose half angle, or whose angle, is at the limit, or within it.
     fn small_rotation(&mut self) -> [f64; 4] {
-        let direction = self.direction();
+        let direction = self.random.direction();
         let tolerance = self.tolerance;
         let r = &mut self.random;
         let kind = r.below(8);
@@ -538,6 +574,25 @@ impl Generator {
 }
 
 impl Random {
+    /// A vector of length 1, or nearly: any direction, an axis, or a plane.
+    pub(crate) fn direction(&mut self) -> [f64; 3] {
+        let axis = self.below(3);
+        let mut direction = match self.below(4) {
+            0 => [(); 3].map(|()| self.zero()),
+            1 => {
+                let mut plane = [(); 3].map(|()| self.signed());
+                plane[(axis + 1) % 3] = self.zero();
+                plane
+            }
+            _ => [(); 3].map(|()| self.signed()),
+        };
+        if direction.iter().all(|value| value.abs() < 0.01) {
+            direction[axis] = self.sign(1.0);
+        }
+        let norm = refusals::norm([0.0, direction[0], direction[1], direction[2]]);
+        direction.map(|value| value / norm)
+    }
+
     /// How far the norm of a block's quaternion is from 1, or a neighbour of that.
     fn about_distance(&mut self, block: Block, values: &[u64]) -> f64 {
         let at = block.quaternion().unwrap_or(0).min(values.len());
@@ -548,6 +603,13 @@ impl Random {
             }
             None => refusals::TOLERANCE,
         }
+    }
+
+    /// A theta with one value moved by up to three places.
+    fn near(&mut self, mut theta: [f64; 3]) -> [f64; 3] {
+        let place = self.below(3);
+        theta[place] = nudge(theta[place], self.below(7) as i64 - 3);
+        theta
     }
 
     /// Four values of which all but one are zero.
@@ -569,7 +631,7 @@ fn is_unit(element: &[u64], tolerance: f64) -> bool {
 }
 
 /// Each value divided by the norm; the identity where that is not to be had.
-fn unit(q: [f64; 4]) -> [f64; 4] {
+pub(crate) fn unit(q: [f64; 4]) -> [f64; 4] {
     let norm = refusals::norm(q);
     if norm > 1e-3 && norm < 1e3 {
         q.map(|value| value / norm)

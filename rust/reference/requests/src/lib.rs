@@ -4,6 +4,7 @@
 //! - [`format`]: requests and outcomes, and how they are written as words;
 //! - [`refusals`]: the scope's section 'Answers and their numbers', with the tolerance that a caller chooses, read once more in plain Rust;
 //! - [`generators`]: random requests from a seed;
+//! - [`turning`]: random requests with turns of a given size, none of them refused;
 //! - [`bench_list`]: the scope's bench list, with its answers written out by hand, and inputs beside it.
 
 pub mod bench_list;
@@ -12,6 +13,7 @@ pub mod format;
 pub mod generators;
 pub mod random;
 pub mod refusals;
+pub mod turning;
 
 pub use calls::{CALLS, Call};
 pub use format::{Outcome, Request};

@@ -2,8 +2,8 @@
 //! nothing with docs/src and nothing with the proved crates.
 //!
 //! The numbers are tried in the order 1, 2, 7, 3, 4, 5, each over all blocks from left to right before the next. Up to 3
-//! they are read from the blocks and the tolerance alone. For 4 the caller names the squared angles that the call tests,
-//! and for 5 the values of the result.
+//! they are read from the blocks and the tolerance alone. For 4 the caller names what the call tests and the limit, and for
+//! 5 the values of the result.
 
 use crate::calls::{Block, Call};
 use crate::format::Request;
@@ -14,8 +14,12 @@ pub const LONGEST_CHAIN: usize = 4096;
 pub const TOLERANCE: f64 = 1e-6;
 /// The largest tolerance that a caller may choose.
 pub const MOST_TOLERANCE: f64 = 1.0 / 1024.0;
-/// The largest squared angle of the series branch.
-pub const LIMIT: f64 = 1e-10;
+/// The largest squared angle of the series branch, which the calls keep to that take a logarithm or the inverse of a Jacobian.
+pub const SERIES_LIMIT: f64 = 1e-10;
+/// The largest squared angle of exp, plus and the other Jacobians of tangents.
+pub const EXP_LIMIT: f64 = 9.0;
+/// The largest magnitude of a number of which sine or cosine is taken.
+pub const NUMBER_LIMIT: f64 = 4.0;
 
 /// The numbers that an outcome can have.
 pub const NUMBERS: [u64; 7] = [0, 1, 2, 3, 4, 5, 7];
@@ -70,10 +74,9 @@ pub fn of_blocks(call: &Call, request: &Request) -> Option<Refusal> {
         .or_else(|| first_of(&|block, values| not_unit(block, values, within)))
 }
 
-/// Refusal 4: one of the squared angles that are tested is above the limit.
-pub fn turn(squared_angles: &[f64]) -> Option<Refusal> {
-    let left = squared_angles.iter().any(|squared| *squared > LIMIT);
-    left.then_some(Refusal::Turn)
+/// Refusal 4: the squared angle or the magnitude that is tested is above the limit, infinite ones among them.
+pub fn turn(tested: f64, limit: f64) -> Option<Refusal> {
+    (tested > limit).then_some(Refusal::Turn)
 }
 
 /// Refusal 5: a value of the result isn't finite.

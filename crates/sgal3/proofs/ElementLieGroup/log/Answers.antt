@@ -13,9 +13,9 @@ returns c = rw (
   c.sub.ensures,
   c.scale.ensures,
   c.apply.ensures,
-  c.s_nu_coupling-coupling.ensures,
+  c.s_nu_coupling_series-coupling.ensures,
   c.apply-nu.ensures,
   c.left_jacobian_inv-v_inv.ensures,
   c.log-turn.ensures,
   c.rotation_impl.ensures,
-) (unfold Elements.log Tangents.s_nu_coupling So3-as-Tangents.left_jacobian_inv Matrices.apply Vectors.sub Vectors.scale Law-as-Series.log_at Law-as-Series.log_by in refl)
+) (unfold Elements.log Tangents.s_nu_coupling_series So3-as-Tangents.left_jacobian_inv Matrices.apply Vectors.sub Vectors.scale Law-as-Series.log_at Law-as-Series.log_by in refl)

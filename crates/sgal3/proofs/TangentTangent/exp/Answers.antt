@@ -1,19 +1,26 @@
-use mathlib.Core.Path.{refl}
-use Rattle.sgal3.specs.Tangents as Tangents
-use Rattle.so3.specs.Tangents as So3-as-Tangents
-use Rattle.linear.specs.Matrices as Matrices
-use Rattle.linear.specs.Vectors as Vectors
-use Rattle.law.specs.GalileanSeries as Law-as-Series
+use mathlib.Core.Path.{◌∙◌, sym, ap}
+use Rattle.so3.specs.Tangents as So3
+use Rattle.sgal3.proofs.Branches.{exp-above-limit, exp-up-to-limit}
 use Rattle.sgal3.proofs.TangentTangent.exp.Goals as goal
 
-pub returns : goal.returns
-returns c = rw (
-  c.add-translation.ensures,
-  c.scale.ensures,
-  c.apply-2.ensures,
-  c.apply.ensures,
-  c.s_nu_coupling-coupling.ensures,
-  c.apply-velocity.ensures,
-  c.left_jacobian-v_matrix.ensures,
-  c.exp-rot.ensures,
-) (unfold Tangents.exp Tangents.s_nu_coupling So3-as-Tangents.exp So3-as-Tangents.left_jacobian Matrices.apply Vectors.add Vectors.scale Law-as-Series.exp Law-as-Series.exp_by in refl)
+pub returns-then-leaves_series : goal.returns-then-leaves_series
+returns-then-leaves_series c = rw (
+  exp-above-limit c.args.self (ap So3.leaves_series (sym c.turn-turn.ensures) ∙ sym c.leaves_series.ensures ∙ c.if-leaves_series.true),
+  c.exp_by.ensures,
+  c.s_nu_coupling_closed.ensures,
+  c.exp_closed.ensures,
+  c.left_jacobian_closed-v_matrix.ensures,
+  c.of_square-w.ensures,
+  c.theta_squared.ensures,
+  c.turn-turn.ensures,
+)
+
+pub returns-else-leaves_series : goal.returns-else-leaves_series
+returns-else-leaves_series c = rw (
+  exp-up-to-limit c.args.self (ap So3.leaves_series (sym c.turn-turn.ensures) ∙ sym c.leaves_series.ensures ∙ c.if-leaves_series.false),
+  c.exp_by-else-leaves_series.ensures,
+  c.s_nu_coupling_series.ensures,
+  c.exp_series.ensures,
+  c.left_jacobian_series-v_matrix.ensures,
+  c.turn-turn.ensures,
+)

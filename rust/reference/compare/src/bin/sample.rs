@@ -1,16 +1,16 @@
 //! sample REQUESTS OUTCOMES
 //!
 //! Writes a fixed sample of requests and the reference's outcomes into two files: the scope's bench list, inputs at
-//! which another order of operations shows, turns at the limit, tolerances at the ends of their range, adjoints that
+//! which another order of operations shows, turns at a limit, tolerances at the ends of their range, adjoints that
 //! overflow, and random requests such that every call has every outcome that it can have, several times, and is accepted
-//! with norms that 1e-6 refuses. It is the same on every run, and fails where an outcome is missing.
+//! with norms that 1e-6 refuses, and with large turns. It is the same on every run, and fails where an outcome is missing.
 
 use compare::Counts;
 use requests::calls::{Block, Call};
 use requests::format::MOST_VALUES;
 use requests::generators::Generator;
 use requests::refusals::{NUMBERS, TOLERANCE};
-use requests::{CALLS, Outcome, Request, bench_list};
+use requests::{CALLS, Outcome, Request, bench_list, turning};
 use std::collections::BTreeMap;
 use std::fs;
 use std::process::ExitCode;
@@ -21,6 +21,8 @@ const ACCEPTED: u64 = 26;
 const REFUSED: u64 = 6;
 /// And how many at the least that are accepted with norms that 1e-6 refuses.
 const WIDE: u64 = 3;
+/// Of a call that takes sines, how many at the least are accepted with a turn, or a number, above 1.
+const LARGE: u64 = 8;
 /// Draws for one call before it is given up.
 const DRAWS: u32 = 200_000;
 /// Of the random chains of more blocks than this, only a few are kept.
@@ -54,6 +56,7 @@ struct Sample {
     outcomes: Vec<u8>,
     counts: Counts,
     wide: BTreeMap<u64, u64>,
+    large: BTreeMap<u64, u64>,
     long_chains: u32,
 }
 
@@ -118,15 +121,21 @@ impl Sample {
 
     fn has_enough(&self, call: &Call) -> bool {
         let wide = !call.checks_norms() || self.wide.get(&call.number) >= Some(&WIDE);
-        wide && NUMBERS
-            .iter()
-            .filter(|number| call.can_have(**number))
-            .all(|number| self.counts.count(call, *number) >= wanted(call, *number))
+        let large = !call.takes_sines() || self.large.get(&call.number) >= Some(&LARGE);
+        wide && large
+            && NUMBERS
+                .iter()
+                .filter(|number| call.can_have(**number))
+                .all(|number| self.counts.count(call, *number) >= wanted(call, *number))
     }
 
     fn wants(&mut self, call: &Call, request: &Request, outcome: &Outcome) -> bool {
         let wide = self.wide.get(&call.number) < Some(&WIDE) && is_wide(request, outcome);
-        if !wide && self.counts.count(call, outcome.number) >= wanted(call, outcome.number) {
+        let large = self.large.get(&call.number) < Some(&LARGE) && is_large(request, outcome);
+        if !wide
+            && !large
+            && self.counts.count(call, outcome.number) >= wanted(call, outcome.number)
+        {
             return false;
         }
         if call.first == Block::Chain && request.first.len() > 11 * LONG {
@@ -141,6 +150,7 @@ impl Sample {
         outcome.write(&mut self.outcomes);
         self.counts.add(request.number, outcome.number);
         *self.wide.entry(request.number).or_default() += u64::from(is_wide(request, outcome));
+        *self.large.entry(request.number).or_default() += u64::from(is_large(request, outcome));
     }
 }
 
@@ -157,6 +167,12 @@ fn is_wide(request: &Request, outcome: &Outcome) -> bool {
     };
     answers::answer(&request, &mut at_a_millionth);
     at_a_millionth.number == 3
+}
+
+/// Whether a request is accepted whose turn, or number, is above 1.
+fn is_large(request: &Request, outcome: &Outcome) -> bool {
+    let large = || turning::square(request).is_some_and(|square| square > 1.0);
+    outcome.number == 0 && request.call().takes_sines() && large()
 }
 
 /// How many requests with this outcome are kept: one is enough for a call that is always the same.

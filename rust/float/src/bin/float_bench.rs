@@ -1,16 +1,28 @@
-//! sqrt_bench: times the square root of the static library beside the machine's, both called through the C boundary, and prints
-//! a table. Rounds of the two alternate; a figure is the median of its rounds.
+//! float_bench: times the square root of the static library beside the machine's, and its sine and cosine beside libm's, all called through the C
+//! boundary, and prints three tables. Rounds of two functions alternate; a figure is the median of its rounds.
 use float::patterns::{self, Random};
 use std::hint::black_box;
 use std::time::Instant;
 
 extern "C" {
     fn float_sqrt(x: f64) -> f64;
+    fn float_sine(x: f64) -> f64;
+    fn float_cosine(x: f64) -> f64;
 }
 
 #[inline(never)]
 extern "C" fn from_machine(x: f64) -> f64 {
     x.sqrt()
+}
+
+#[inline(never)]
+extern "C" fn sine_of_libm(x: f64) -> f64 {
+    x.sin()
+}
+
+#[inline(never)]
+extern "C" fn cosine_of_libm(x: f64) -> f64 {
+    x.cos()
 }
 
 #[inline(never)]
@@ -73,6 +85,33 @@ fn drawn(mut draw: impl FnMut(&mut Random) -> u64) -> Vec<u64> {
     (0..CALLS).map(|_| draw(&mut g)).collect()
 }
 
+/// Of a magnitude up to `most`, of either sign.
+fn up_to(most: f64) -> Vec<u64> {
+    drawn(|g| (most * (g.below(1 << 54) as f64 / (1u64 << 53) as f64 - 1.0)).to_bits())
+}
+
+/// A line for each class of arguments and each measure.
+fn table(ours: (&str, Function), other: (&str, Function), classes: &[(&str, Vec<u64>)]) {
+    let (our_name, our_function) = ours;
+    let (other_name, other_function) = other;
+    println!("| argument | measure | {our_name}, ns | {other_name}, ns | ratio | call alone, ns |");
+    println!("|---|---|---:|---:|---:|---:|");
+    for (name, arguments) in classes {
+        for (kind, measure) in [
+            ("latency", in_turn as Measure),
+            ("throughput", side_by_side),
+        ] {
+            let functions = [our_function, other_function, unchanged];
+            let [ours, other, call] = times(measure, functions, arguments);
+            println!(
+                "| {name} | {kind} | {ours:.2} | {other:.2} | {:.2} | {call:.2} |",
+                ours / other
+            );
+        }
+    }
+    println!();
+}
+
 fn main() {
     let one = 1f64.to_bits();
     let classes = [
@@ -95,19 +134,20 @@ fn main() {
         ("normal, any binade", drawn(|g| patterns::normal(g)[0])),
         ("subnormal", drawn(|g| patterns::subnormal(g)[0])),
     ];
-    println!("| argument | measure | float_sqrt, ns | machine, ns | ratio | call alone, ns |");
-    println!("|---|---|---:|---:|---:|---:|");
-    for (name, arguments) in &classes {
-        for (kind, measure) in [
-            ("latency", in_turn as Measure),
-            ("throughput", side_by_side),
-        ] {
-            let [ours, machine, call] =
-                times(measure, [float_sqrt, from_machine, unchanged], arguments);
-            println!(
-                "| {name} | {kind} | {ours:.2} | {machine:.2} | {:.2} | {call:.2} |",
-                ours / machine
-            );
-        }
-    }
+    table(
+        ("float_sqrt", float_sqrt),
+        ("machine", from_machine),
+        &classes,
+    );
+    let angles = [
+        ("up to 4", up_to(4.0)),
+        ("up to 1.5", up_to(1.5)),
+        ("up to 2^-10", up_to(0.0009765625)),
+    ];
+    table(("float_sine", float_sine), ("libm", sine_of_libm), &angles);
+    table(
+        ("float_cosine", float_cosine),
+        ("libm", cosine_of_libm),
+        &angles,
+    );
 }

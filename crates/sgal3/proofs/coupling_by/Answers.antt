@@ -1,9 +1,8 @@
 use Rattle.sgal3.specs.Tangents as Tangents
 use Rattle.linear.specs.Matrices as Matrices
-use Rattle.linear.specs.Vectors as Vectors
 use Rattle.law.specs.GalileanSeries as Law-as-Series
 use Rattle.so3.proofs.Half.{half-value}
-use Rattle.sgal3.proofs.s_nu_coupling.Goals as goal
+use Rattle.sgal3.proofs.coupling_by.Goals as goal
 
 pub returns : goal.returns
 returns c = rw (
@@ -15,5 +14,4 @@ returns c = rw (
   c.scale.ensures,
   c.identity.ensures,
   c.hat-theta_skew.ensures,
-  c.norm_squared-w_squared.ensures,
-) (unfold Tangents.s_nu_coupling Matrices.hat Matrices.identity Matrices.scale Matrices.add Matrices.mul Vectors.norm_squared Law-as-Series.s_nu_coupling Law-as-Series.coupling_by in rw half-value)
+) (unfold Tangents.coupling_by Matrices.hat Matrices.identity Matrices.scale Matrices.add Matrices.mul Law-as-Series.coupling_by in rw half-value)

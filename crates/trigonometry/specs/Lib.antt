@@ -1,0 +1,3 @@
+pub mod Sines
+pub mod Taylor
+pub mod Worked
