@@ -8,9 +8,10 @@
 # make compare      every call, the C entries, the square root and the words of eight bytes beside Rust, on fresh random requests: SEED=..;
 #                   for the calls COUNT=.. or SECONDS=.., the entries get two million, the root one, the words 2^20 and 2^17 of each of
 #                   seven kinds; and `compare-turns`, a million requests with turns from 1/16 to 3 rad: each value within 2^-24 of the Rust source
-#                   over the machine's sines; APEX_SRC=.. names the folder of the Rust source, if it is not ../shared
+#                   over the machine's sines and atan2; APEX_SRC=.. names the folder of the Rust source, if it is not ../shared
 # make compare-small-turns  how far they are with smaller turns, on COUNT=.. requests: a table, no test
-# make bench        times: the square root beside the machine's, sine and cosine beside libm's, and the calls beside the Rust source and plain Rust
+# make bench        times: the square root beside the machine's, sine, cosine and half-angle beside libm's, and the calls beside the Rust source
+#                   and plain Rust
 # make bench-turns  times: the C entries at 1e-6 beside those of another archive, OLD=.., by turns in one process
 # make stack        how many bytes of stack the C entries take, and those that are there for timing alone
 # make vectors      the stored vectors of the square root anew
@@ -241,7 +242,7 @@ bench-turns: lib
 
 stack: lib sgal3-lib
 	@tools/stack target/lib/libhandset.a $$(sed -n 's/^uint32_t \(sgal3_[a-z_]*\)(.*/\1/p' include/handset.h)
-	@tools/stack target/staticlib/libsgal3_export.a sgal3_exp sgal3_log sgal3_adjoint sgal3_short_adjoint
+	@tools/stack target/staticlib/libsgal3_export.a sgal3_exp sgal3_log so3_log sgal3_adjoint sgal3_short_adjoint
 
 sgal3-lib: toolchain-check
 	@$(call STATIC_LIBRARY,sgal3_export)

@@ -77,6 +77,15 @@ module _ {G V J P D : Type 0} {g : Group G V J P D} {values : G → List Float} 
   pub made-comes-back : (e c : G) → answered values e ≡ Ok c → Made (rotation e) → ComesBack g values rotation c
   made-comes-back e c h U = let f = finished values e c h in comes-back c f.finite (subst (λ (x : G). Made (rotation x)) f.is U)
 
+  -- ---- between, and its mirror image: an inverse that was made on the way is no block, but its quaternion is near 1 all the same
+  pub between-made : (a b : G) → Accepted (rotation a) → Accepted (rotation b) → Made (rotation (Operations.between g a b))
+  unfolding Operations.between
+  between-made a b A B = R.compose (g.inverse a) b (made-accepted (R.inverse a A)) B
+
+  pub left-between-made : (a b : G) → Accepted (rotation a) → Accepted (rotation b) → Made (rotation (Operations.left_between g a b))
+  unfolding Operations.left_between
+  left-between-made a b A B = R.compose a (g.inverse b) A (made-accepted (R.inverse b B))
+
   -- ---- of answers whose elements are accepted, each at a tolerance of its own
   abbrev pub AllAccepted : Result G Refusal → Type 0
   AllAccepted r = (a : G) → r ≡ Ok a → Accepted (rotation a)
@@ -110,13 +119,12 @@ module _ {G V J P D : Type 0} {g : Group G V J P D} {values : G → List Float} 
       let f = followed (try_from_param_slice g block t) _ c h in
       made-comes-back (g.normalize f.answer) c f.after (R.normalize f.answer (block-accepted block t f.answer b f.is))
 
-  -- an inverse that was made on the way is no block: its quaternion is near 1 all the same
   pub between-comes-back : (left right : List Float) (t : Float) (c : G) → Binary64At left g.quaternion → Binary64At right g.quaternion → Calls.between g values left right t ≡ Ok c → ComesBack g values rotation c
-  unfolding Calls.between Operations.between
+  unfolding Calls.between
   between-comes-back left right t c l r h =
       let a = try_from_param_slice g left t in
       let b = try_from_param_slice g right t in
       let f = followed (both a b) _ c h in
       let p = f.answer in
-      let i = made-accepted (R.inverse p.0 (block-accepted left t p.0 l (passed-left a b p f.is))) in
-      made-comes-back (g.compose (g.inverse p.0) p.1) c f.after (R.compose (g.inverse p.0) p.1 i (block-accepted right t p.1 r (passed-right a b p f.is)))
+      made-comes-back (Operations.between g p.0 p.1) c f.after
+      (between-made p.0 p.1 (block-accepted left t p.0 l (passed-left a b p f.is)) (block-accepted right t p.1 r (passed-right a b p f.is)))

@@ -3,3 +3,4 @@ pub mod Groups
 pub mod Elements
 pub mod Bytes
 pub mod Runs
+pub mod Readings

@@ -1,8 +1,9 @@
-// The square root, sine and cosine for C and Rust, to be compared and timed there.
+// The square root, sine, cosine and the half-angle for C and Rust, to be compared and timed there.
 #![tactic(auto)]
 
 ghost use Rattle.std.specs.Prelude.{◌≡◌};
 ghost use Rattle.float.specs.Root.{square_root, square_root_bits};
+ghost use Rattle.half_angle.specs.HalfAngles as HalfAngles;
 ghost use Rattle.trigonometry.specs.Sines as Sines;
 
 #[unsafe(no_mangle)]
@@ -31,4 +32,11 @@ pub extern "C" fn float_cosine(x: f64) -> f64
     ensures { result ≡ Sines.cosine x }
 {
     trigonometry::cosine(x)
+}
+
+#[unsafe(no_mangle)]
+pub extern "C" fn float_half_angle(s: f64, c: f64) -> f64
+    ensures { result ≡ HalfAngles.half_angle s c }
+{
+    half_angle::half_angle(s, c)
 }

@@ -32,8 +32,8 @@ element_call r =
 -- the logarithm of an element of the Galilean group, and what it acts on
 unfoldable pub log_call : Request → Option (List ℕ)
 log_call r =
-    cond (eqb r.call 79) (Some (Outcomes.of Tangents.coeffs 0 (Generic.log group Tangents.coeffs r.left.now (Outcomes.tolerance r))))
-    (cond (eqb r.call 80) (Some (Outcomes.of Tangents.coeffs 0 (Generic.log group Tangents.coeffs r.left.now (Outcomes.tolerance r))))
+    cond (eqb r.call 79) (Some (Outcomes.of Tangents.coeffs 0 (Generic.log group tangents Tangents.coeffs r.left.now (Outcomes.tolerance r))))
+    (cond (eqb r.call 80) (Some (Outcomes.of Tangents.coeffs 0 (Generic.log group tangents Tangents.coeffs r.left.now (Outcomes.tolerance r))))
     (cond (eqb r.call 81) (Some (Outcomes.of vector_values 0 (Generic.act group r.left.now r.right.now (Outcomes.tolerance r))))
     (cond (eqb r.call 82) (Some (Outcomes.of matrix_values 9 (Generic.act_jacobian_vector group r.left.now r.right.now (Outcomes.tolerance r))))
     (cond (eqb r.call 83) (Some (Outcomes.of Elements.coeffs 0 (Generic.normalize group Elements.coeffs r.left.now (Outcomes.tolerance r))))
@@ -72,8 +72,8 @@ plus_call r =
     (cond (eqb r.call 101) (Some (Outcomes.of TenRows.values 100 (Generic.right_plus_jacobian_self group tangents TenRows.values Adjoints.opened r.left.now r.right.now (Outcomes.tolerance r))))
     (cond (eqb r.call 102) (Some (Outcomes.of Elements.coeffs 0 (Generic.left_plus group tangents Elements.coeffs r.left.now r.right.now (Outcomes.tolerance r))))
     (cond (eqb r.call 103) (Some (Outcomes.of TenRows.values 100 (Generic.left_plus_jacobian_self group tangents TenRows.values r.left.now r.right.now (Outcomes.tolerance r))))
-    (cond (eqb r.call 104) (Some (Outcomes.of Tangents.coeffs 0 (Generic.right_minus group Tangents.coeffs r.left.now r.right.now (Outcomes.tolerance r))))
-    (cond (eqb r.call 105) (Some (Outcomes.of Tangents.coeffs 0 (Generic.left_minus group Tangents.coeffs r.left.now r.right.now (Outcomes.tolerance r))))
+    (cond (eqb r.call 104) (Some (Outcomes.of Tangents.coeffs 0 (Generic.right_minus group tangents Tangents.coeffs r.left.now r.right.now (Outcomes.tolerance r))))
+    (cond (eqb r.call 105) (Some (Outcomes.of Tangents.coeffs 0 (Generic.left_minus group tangents Tangents.coeffs r.left.now r.right.now (Outcomes.tolerance r))))
     None)))))
 
 -- what leads from one element to another; plus and minus of elements by their short names
@@ -84,7 +84,7 @@ between_call r =
     (cond (eqb r.call 108) (Some (Outcomes.of TenRows.values 100 (Generic.compose_jacobian_other group TenRows.values r.left.now r.right.now (Outcomes.tolerance r))))
     (cond (eqb r.call 109) (Some (Outcomes.of Elements.coeffs 0 (Generic.right_plus group tangents Elements.coeffs r.left.now r.right.now (Outcomes.tolerance r))))
     (cond (eqb r.call 110) (Some (Outcomes.of TenRows.values 100 (Generic.right_plus_jacobian_self group tangents TenRows.values Adjoints.opened r.left.now r.right.now (Outcomes.tolerance r))))
-    (cond (eqb r.call 111) (Some (Outcomes.of Tangents.coeffs 0 (Generic.right_minus group Tangents.coeffs r.left.now r.right.now (Outcomes.tolerance r))))
+    (cond (eqb r.call 111) (Some (Outcomes.of Tangents.coeffs 0 (Generic.right_minus group tangents Tangents.coeffs r.left.now r.right.now (Outcomes.tolerance r))))
     None)))))
 
 -- the adjoints without their zeros

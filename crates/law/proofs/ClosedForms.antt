@@ -75,7 +75,7 @@ module _ {A : Type 0} (𝓔 : Exact A) where
       tt
 
   -- a² b² = (a b)²
-  squares : (a b : A) → a ⊗ a ⊗ (b ⊗ b) ≡ a ⊗ b ⊗ (a ⊗ b)
+  pub squares : (a b : A) → a ⊗ a ⊗ (b ⊗ b) ≡ a ⊗ b ⊗ (a ⊗ b)
   unfolding agree eval
   squares a b =
       let w = written in
@@ -105,7 +105,7 @@ module _ {A : Type 0} (𝓔 : Exact A) where
       (var 0) (w.mul (w.mul (var 0) (var 1)) (var 2)) (var 0) tt
 
   -- and k cancels
-  cancel : (k a b : A) → ExactDivisor 𝓔 k → a ⊗ k ≡ b ⊗ k → a ≡ b
+  pub cancel : (k a b : A) → ExactDivisor 𝓔 k → a ⊗ k ≡ b ⊗ k → a ≡ b
   cancel k a b h e = sym (undone k a h) ∙ ap (λ c. c ⊗ (o.one ⊘ k)) e ∙ undone k b h
 
   -- ½ - t b = a, where a = (1 - c)/t and b = ((t + 2c) - 2)/((2t) t)

@@ -210,7 +210,7 @@ module _ {A : Type 0} (𝓔 : Exact A) where
   abbrev pub ExactDivisor : A → Type 0
   ExactDivisor k = (a : A) → o.mul (o.div a k) k ≡ a
 
-  divide-scale : (a : Vector A) (k : A) → ExactDivisor k → Vector.divide o a k · k ≡ a
+  pub divide-scale : (a : Vector A) (k : A) → ExactDivisor k → Vector.divide o a k · k ≡ a
   unfolding Vector.divide Vector.scale
   divide-scale a k h = simp (h a.x, h a.y, h a.z)
 

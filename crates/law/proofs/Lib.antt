@@ -3,6 +3,7 @@ pub mod Rotation
 pub mod Series
 pub mod Exponential
 pub mod ClosedForms
+pub mod Inverses
 pub mod Group
 pub mod Adjoint
 pub mod Filled

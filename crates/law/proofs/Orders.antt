@@ -25,5 +25,5 @@ unfolding worked_series Rows.by_row GalileanSeries.coupling_by GalileanSeries.s_
 series-orders = refl
 
 pub closed_form-orders : map (λ (w : Worked). w.computed) worked_closed_forms ≡ map (λ (w : Worked). w.said) worked_closed_forms
-unfolding worked_closed_forms Rows.by_row ClosedForms.exp_by ClosedForms.exp ClosedForms.left_jacobian_by ClosedForms.left_jacobian ClosedForms.s_nu_coupling GalileanSeries.coupling_by Series.half Matrix.identity Matrix.hat Matrix.mul Matrix.row_by Matrix.scale Matrix.add Vector.add Vector.scale add sub mul div neg sum round size span climb odd units count_trailing_zeros of_fields of_bits to_bits
+unfolding worked_closed_forms Rows.by_row ClosedForms.exp_by ClosedForms.exp ClosedForms.log_coefficient ClosedForms.left_jacobian_by ClosedForms.left_jacobian ClosedForms.left_jacobian_inv_by ClosedForms.left_jacobian_inv ClosedForms.s_nu_coupling GalileanSeries.coupling_by Series.half Series.log_by Series.minus_hat Series.left_jacobian_inv Quaternion.vector Matrix.identity Matrix.hat Matrix.mul Matrix.row_by Matrix.scale Matrix.add Matrix.sub Vector.add Vector.sub Vector.scale add sub mul div neg sum round size span climb odd units count_trailing_zeros of_fields of_bits to_bits
 closed_form-orders = refl

@@ -29,6 +29,21 @@ written =
       root = λ a. a;
     }
 
+-- the same where ½ is unknown i, and nothing else is divided
+abbrev pub written_with_half : ℕ → Arithmetic Expr
+written_with_half i =
+    record {
+      zero = zer;
+      one = one;
+      two = sum one one;
+      add = sum;
+      sub = λ a b. sum a (minus b);
+      mul = product;
+      neg = minus;
+      div = λ a b. var i;
+      root = λ a. a;
+    }
+
 -- unknowns, from number i on
 abbrev pub vector : ℕ → Vector Expr
 vector i = record { x = var i; y = var (i + 1); z = var (i + 2) }

@@ -13,6 +13,7 @@ use Rattle.law.specs.Rows as Rows
 use Rattle.law.specs.Rotation as Rotation
 use Rattle.law.specs.Galilean as Galilean
 use Rattle.law.specs.Galilean.{Element, Tangent}
+use Rattle.law.specs.Series as Series
 use Rattle.law.specs.GalileanSeries as GalileanSeries
 use Rattle.law.specs.ClosedForms as ClosedForms
 use Rattle.law.specs.ClosedForms.{Angle}
@@ -179,9 +180,27 @@ turn353 = vector 0x3fe3_3333_3333_3333 one 0x3fe3_3333_3333_3333
 abbrev angle353 : Angle Float
 angle353 = angle 0x3ffb_851e_b851_eb84 0x3ff4_fbda_8817_b44d 0x3fee_ee1e_f042_2c24 0x3fd0_690f_5807_a00e
 
+-- (5, 6, 8) / 7, and its norm as an angle
+abbrev turn568 : Vector Float
+turn568 = vector 0x3fe6_db6d_b6db_6db7 0x3feb_6db6_db6d_b6db 0x3ff2_4924_9249_2492
+
+abbrev angle568 : Angle Float
+angle568 = angle 0x4004_687d_6343_eb1a 0x3ff9_8e18_9522_38f0 0x3fef_fd25_7fba_655f 0xbf9b_0682_8a8f_ee9f
+
+-- of q2452 the half-angle, and the norm of the vector part
+abbrev half_angle2452 : Float
+half_angle2452 = of_bits binary64 0x3ff4_7f28_a62a_2012
+
+abbrev vector_norm2452 : Float
+vector_norm2452 = of_bits binary64 0x3fee_aa83_e629_1120
+
 -- of which the square, 1.25 * 2 ^ -537, is so small that its own square is below the normal numbers
 abbrev low_angle : Angle Float
 low_angle = angle 0x1e64_0000_0000_0000 one zero 0x3fef_ffff_ffff_ffff
+
+-- of which the angle and the sine are so small that their product is below the normal numbers
+abbrev low_sine : Angle Float
+low_sine = angle one 0x1e64_0000_0000_0000 0x1e64_0000_0000_0000 0xbfef_ffff_ffff_ffff
 
 unfoldable pub worked_orders : List Worked
 worked_orders =
@@ -421,7 +440,7 @@ worked_series =
     ∷ 0x3ebb_6db6_db6d_b6db ∷ 0x3ea2_4924_9249_2492 ∷ zero ∷ three ∷ [])
     ∷ []
 
--- exp, the left Jacobian and M where the angle is not small
+-- exp, log, the left Jacobian, its inverse and M where the angle is not small
 unfoldable pub worked_closed_forms : List Worked
 worked_closed_forms =
     -- exp: h·(s/n), and not (h·s)/n or (h/n)·s, which are one lower in each value of the vector
@@ -430,6 +449,9 @@ worked_closed_forms =
     -- and it is not normalised, which would put each value one higher
     ∷ of quaternion_values (ClosedForms.exp rounded angle353 turn353)
     (0x3fd0_690f_5807_a00e ∷ 0x3fdc_4d03_3da4_400b ∷ 0x3fe7_9582_b35e_355f ∷ 0x3fdc_4d03_3da4_400b ∷ [])
+    -- log: x·((2·a)/s): the first value is ..5417 if it is (x·(2·a))/s or (x/s)·(2·a), and ..5416 with a·(2/s). 2·(a/s) has the same bits, except below the normal numbers
+    ∷ of vector_values (Series.log_by rounded (ClosedForms.log_coefficient rounded half_angle2452 vector_norm2452) q2452)
+    (0x3ff8_719a_1c14_5418 ∷ 0x3ffe_8e00_a319_691e ∷ 0x3fe8_719a_1c14_5418 ∷ [])
     -- left Jacobian: (b·hat)·hat: (1,1) is ..7159 if b scales the product, and (0,1) ..92ce if it scales the second factor. (0,0) is ..e975 if b is divided by w³ and not by w²·w,
     -- and (0,2) ..0d08 if a is divided by w·w. The order of the two sums never shows: in each place I or hat has a zero
     ∷ of matrix_values (ClosedForms.left_jacobian rounded angle342 turn342)
@@ -441,6 +463,17 @@ worked_closed_forms =
     (0x3fe9_5873_406e_361b ∷ 0xbfc5_7576_162a_c8f2 ∷ 0x3fdf_30fb_e6f1_e5e9
     ∷ 0x3fd6_78fe_b780_140d ∷ 0x3fec_7a1e_e5df_fe87 ∷ 0xbfc5_7576_162a_c8f2
     ∷ 0xbfd8_2539_b2b1_e2f7 ∷ 0x3fd6_78fe_b780_140d ∷ 0x3fe9_5873_406e_361b ∷ [])
+    -- its inverse: (k·hat)·hat: (2,1) is ..2e5e if k scales the product, and (1,2) ..ad11 if it scales the second factor. (1,1) is ..c7ee if 1 + cos w is divided by 2·w and by
+    -- sin w in turn, and (0,0) ..7359 if 1 is divided by w·w. The order of the sums never shows, as in the left Jacobian
+    ∷ of matrix_values (ClosedForms.left_jacobian_inv rounded angle568 turn568)
+    (0x3fea_4fb9_9dca_7358 ∷ 0x3fe3_fe06_7c8c_685e ∷ 0xbfd6_e0b1_c00f_acbb
+    ∷ 0xbfe0_9442_a805_e0c6 ∷ 0x3fea_efea_518d_c7f0 ∷ 0x3fdc_5173_d7b2_ad10
+    ∷ 0x3fdf_fabb_f6cb_c0fb ∷ 0xbfd1_6567_9604_2e5d ∷ 0x3fec_87ac_1b21_e514 ∷ [])
+    -- (2·w)·sin w, which is 3 of the smallest number above zero, and not 2·(w·sin w), which is 4: they differ below the normal numbers alone
+    ∷ of matrix_values (ClosedForms.left_jacobian_inv rounded low_sine (vector one zero zero))
+    (one ∷ zero ∷ zero
+    ∷ zero ∷ 0x7fa5_5555_5555_5555 ∷ half
+    ∷ zero ∷ minus_half ∷ 0x7fa5_5555_5555_5555 ∷ [])
     -- M: b·(hat·hat): (0,0) is ..ff67 if b scales a factor, and ..ff69 if 2·cos w - 2 is formed first; (0,2) is ..fd38 if a is divided by w²·w and not by w³
     ∷ of matrix_values (ClosedForms.s_nu_coupling rounded angle342 turn342)
     (0x3fde_eecc_bf99_ff68 ∷ 0xbfa2_8c0b_ca60_f9a2 ∷ 0x3fb8_f33f_4cc4_fd35

@@ -34,7 +34,3 @@ module _ {A : Type 0} (o : Arithmetic A) where
 
   unfoldable pub left_jacobian_inv : Vector A → Matrix A
   left_jacobian_inv θ = minus_hat half θ
-
-  -- the right one is its transpose
-  unfoldable pub right_jacobian_inv : Vector A → Matrix A
-  right_jacobian_inv θ = Matrix.transpose o (left_jacobian_inv θ)

@@ -24,7 +24,7 @@ answered values a = cond (all_finite (values a)) (Ok a) (Err Overflow)
 unfoldable pub leaves_series : Float → Bool
 leaves_series squared = lt (of_bits binary64 0x3ddb_7cdf_d9d7_bdbb) squared
 
--- a squared angle above 9 is too large
+-- a squared angle above 9 is too large: exp, plus, log and minus refuse it
 unfoldable pub turn_too_large : Float → Bool
 turn_too_large squared = lt (of_bits binary64 0x4022_0000_0000_0000) squared
 

@@ -5,6 +5,7 @@ use Rattle.checks.specs.Checks.{Check, and_then, check_length, check_values, che
 use Rattle.checks.specs.declared.Refusal.{Refusal}
 use Rattle.linear.specs.declared.Vec3.{Vec3}
 use Rattle.linear.specs.declared.Mat3.{Mat3}
+use Rattle.manifold.specs.Answers.{within}
 
 -- a group of elements G with tangents T; its Jacobians are matrices J, that of act with respect to the element a matrix P; the short form of an adjoint is a D
 pub record Group (G T J P D : Type 0) : Type 0 where
@@ -16,8 +17,6 @@ pub record Group (G T J P D : Type 0) : Type 0 where
   pub compose : G → G → G
   pub inverse : G → G
   pub log : G → T
-  -- whether log would leave its series
-  pub leaves_series : G → Bool
   pub act : G → Vec3 → Vec3
   pub rotation_matrix : G → Mat3
   pub normalize : G → G
@@ -36,7 +35,7 @@ pub record Tangents (G T J A : Type 0) : Type 0 where
   pub tangent_of : List Float → T
   pub zero : T
   pub exp : T → G
-  -- whether the calls of exp and plus refuse it
+  -- whether its turn is too large for a call
   pub turn_too_large : T → Bool
   pub hat : T → A
   -- of place i of a tangent
@@ -61,3 +60,7 @@ try_from_param_slice g s tolerance = and_then (validate_params g s tolerance) (�
 -- the tangent of a block, or why the block is refused
 unfoldable pub try_from_slice : {G T J A : Type 0} → Tangents G T J A → List Float → Result T Refusal
 try_from_slice t s = and_then (check_values s t.dim) (λ _. Ok (t.tangent_of s))
+
+-- the tangent itself, where its turn is not too large: the turn test of exp, plus, log and minus, and of their Jacobians
+unfoldable pub within_turn : {G T J A : Type 0} → Tangents G T J A → T → Result T Refusal
+within_turn t a = and_then (within (t.turn_too_large a)) (λ _. Ok a)

@@ -133,7 +133,7 @@ pub fn leaves_series(squared: f64) -> bool
     squared > 1e-10
 }
 
-// Whether exp and plus refuse an angle with this square.
+// Whether an angle with this square is too large: exp, plus, log and minus refuse it.
 #[tactic(auto, unfolding(crate::specs::Answers::turn_too_large))]
 pub fn turn_too_large(squared: f64) -> bool
     ensures { result ≡ Answers.turn_too_large squared }
@@ -273,9 +273,18 @@ pub trait Tangent: Values {
     fn exp(self) -> Self::Group
         ensures { result ≡ tangents.exp self };
 
-    // Whether exp and plus refuse it.
+    // Whether its turn is too large: exp and plus refuse it, log and minus refuse to answer with it.
     fn turn_too_large(self) -> bool
         ensures { result ≡ tangents.turn_too_large self };
+
+    // The tangent itself, if its turn is not too large: the one turn test of exp, plus, log and minus, and of their Jacobians.
+    #[tactic(auto, unfolding(crate::specs::Group::within_turn))]
+    fn within_turn(self) -> Result<Self, Refusal>
+        ensures { result ≡ Group.within_turn tangents self }
+    {
+        within(self.turn_too_large())?;
+        Ok(self)
+    }
 
     fn hat(self) -> Self::LieAlgebra
         ensures { result ≡ tangents.hat self };
@@ -357,9 +366,6 @@ pub trait LieGroup: Values {
 
     fn log(self) -> Self::TangentVector
         ensures { result ≡ group.log self };
-
-    fn leaves_series(self) -> bool
-        ensures { result ≡ group.leaves_series self };
 
     fn act(self, vector: Vec3) -> Vec3
         ensures { result ≡ group.act self vector };

@@ -6,8 +6,8 @@ use Rattle.checks.specs.declared.Refusal.{Refusal}
 use Rattle.linear.specs.Records.{vector_values, matrix_values}
 use Rattle.linear.specs.declared.Vec3.{Vec3}
 use Rattle.linear.specs.declared.Mat3.{Mat3}
-use Rattle.manifold.specs.Answers.{answered, within, vector_at}
-use Rattle.manifold.specs.Group.{Group, Tangents, from_param_slice, try_from_param_slice, try_from_slice}
+use Rattle.manifold.specs.Answers.{answered, vector_at}
+use Rattle.manifold.specs.Group.{Group, Tangents, from_param_slice, try_from_param_slice, try_from_slice, within_turn}
 use Rattle.manifold.specs.Operations as Operations
 
 -- a vector's three values
@@ -46,13 +46,6 @@ module _ {G T J P D : Type 0} (g : Group G T J P D) where
   unfoldable pub normalize : (G → List Float) → List Float → Float → Result G Refusal
   normalize values block tolerance = and_then (element block tolerance) (λ a. answered values (g.normalize a))
 
-  -- refused where log would leave its series
-  unfoldable pub within_log : List Float → Float → Result G Refusal
-  within_log block tolerance = and_then (element block tolerance) (λ a. and_then (within (g.leaves_series a)) (λ _. Ok a))
-
-  unfoldable pub log : (T → List Float) → List Float → Float → Result T Refusal
-  log values block tolerance = and_then (within_log block tolerance) (λ a. answered values (g.log a))
-
   unfoldable pub act : List Float → List Float → Float → Result Vec3 Refusal
   act block s tolerance = and_then (element_and_vector block s tolerance) (λ p. answered vector_values (g.act p.0 p.1))
 
@@ -87,24 +80,12 @@ module _ {G T J P D : Type 0} (g : Group G T J P D) where
   unfoldable pub act_jacobian_vector : List Float → List Float → Float → Result Mat3 Refusal
   act_jacobian_vector block s tolerance = and_then (element_and_vector block s tolerance) (λ p. answered matrix_values (g.rotation_matrix p.0))
 
-  -- ---- between, and minus: refused where the log of the difference would leave its series
+  -- ---- between
   unfoldable pub between : (G → List Float) → List Float → List Float → Float → Result G Refusal
   between values left right tolerance = and_then (elements left right tolerance) (λ p. answered values (Operations.between g p.0 p.1))
 
   unfoldable pub between_jacobian_self : (J → List Float) → (D → J) → (J → J) → List Float → List Float → Float → Result J Refusal
   between_jacobian_self values opened neg left right tolerance = and_then (elements left right tolerance) (λ p. answered values (Operations.between_jacobian_self g opened neg p.0 p.1))
-
-  unfoldable pub within_right_minus : List Float → List Float → Float → Result (G × G) Refusal
-  within_right_minus left right tolerance = and_then (elements left right tolerance) (λ p. and_then (within (g.leaves_series (Operations.between g p.1 p.0))) (λ _. Ok p))
-
-  unfoldable pub within_left_minus : List Float → List Float → Float → Result (G × G) Refusal
-  within_left_minus left right tolerance = and_then (elements left right tolerance) (λ p. and_then (within (g.leaves_series (Operations.left_between g p.0 p.1))) (λ _. Ok p))
-
-  unfoldable pub right_minus : (T → List Float) → List Float → List Float → Float → Result T Refusal
-  right_minus values left right tolerance = and_then (within_right_minus left right tolerance) (λ p. answered values (Operations.right_minus g p.0 p.1))
-
-  unfoldable pub left_minus : (T → List Float) → List Float → List Float → Float → Result T Refusal
-  left_minus values left right tolerance = and_then (within_left_minus left right tolerance) (λ p. answered values (Operations.left_minus g p.0 p.1))
 
 module _ {G T J A : Type 0} (h : Tangents G T J A) where
   -- ---- tangents
@@ -116,7 +97,7 @@ module _ {G T J A : Type 0} (h : Tangents G T J A) where
 
   -- refused where the turn is too large
   unfoldable pub within_exp : List Float → Result T Refusal
-  within_exp block = and_then (tangent block) (λ t. and_then (within (h.turn_too_large t)) (λ _. Ok t))
+  within_exp block = and_then (tangent block) (within_turn h)
 
   unfoldable pub exp : (G → List Float) → List Float → Result G Refusal
   exp values block = and_then (within_exp block) (λ t. answered values (h.exp t))
@@ -137,12 +118,33 @@ module _ {G T J A : Type 0} (h : Tangents G T J A) where
   normalized_tangent values block = and_then (tangent block) (λ t. answered values (h.normalized t))
 
 module _ {G T J P D A : Type 0} (g : Group G T J P D) (h : Tangents G T J A) where
+  -- ---- log: refused where the turn of its answer is too large
+  unfoldable pub within_log : List Float → Float → Result T Refusal
+  within_log block tolerance = and_then (element g block tolerance) (λ a. within_turn h (g.log a))
+
+  unfoldable pub log : (T → List Float) → List Float → Float → Result T Refusal
+  log values block tolerance = and_then (within_log block tolerance) (answered values)
+
+  -- ---- minus: refused where the turn of its answer is too large
+  unfoldable pub within_right_minus : List Float → List Float → Float → Result T Refusal
+  within_right_minus left right tolerance = and_then (elements g left right tolerance) (λ p. within_turn h (Operations.right_minus g p.0 p.1))
+
+  -- with the right element, which the Jacobians need
+  unfoldable pub within_left_minus : List Float → List Float → Float → Result (T × G) Refusal
+  within_left_minus left right tolerance = and_then (elements g left right tolerance) (λ p. and_then (within_turn h (Operations.left_minus g p.0 p.1)) (λ t. Ok (t, p.1)))
+
+  unfoldable pub right_minus : (T → List Float) → List Float → List Float → Float → Result T Refusal
+  right_minus values left right tolerance = and_then (within_right_minus left right tolerance) (answered values)
+
+  unfoldable pub left_minus : (T → List Float) → List Float → List Float → Float → Result T Refusal
+  left_minus values left right tolerance = and_then (within_left_minus left right tolerance) (λ p. answered values p.0)
+
   -- ---- plus: refused where the turn of its tangent is too large
   abbrev pub element_and_tangent : List Float → List Float → Float → Result (G × T) Refusal
   element_and_tangent block s tolerance = both (element g block tolerance) (tangent h s)
 
   unfoldable pub within_plus : List Float → List Float → Float → Result (G × T) Refusal
-  within_plus block s tolerance = and_then (element_and_tangent block s tolerance) (λ p. and_then (within (h.turn_too_large p.1)) (λ _. Ok p))
+  within_plus block s tolerance = and_then (element_and_tangent block s tolerance) (λ p. and_then (within_turn h p.1) (λ t. Ok (p.0, t)))
 
   unfoldable pub right_plus : (G → List Float) → List Float → List Float → Float → Result G Refusal
   right_plus values block s tolerance = and_then (within_plus block s tolerance) (λ p. answered values (Operations.right_plus g h p.0 p.1))

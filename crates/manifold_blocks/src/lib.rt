@@ -91,26 +91,25 @@ pub fn normalize<G: LieGroup>(block: &[f64], tolerance: f64) -> Result<G, Refusa
     manifold::answered(a.normalize())
 }
 
-// The element, if log stays in its series there.
+// Log's answer, if its turn is not too large.
 #[tactic(auto, unfolding(crate::specs::Calls::within_log))]
-pub fn within_log<G: LieGroup>(block: &[f64], tolerance: f64) -> Result<G, Refusal>
-    ensures { result ≡ Calls.within_log G.group block.now tolerance }
+pub fn within_log<G: LieGroup>(block: &[f64], tolerance: f64) -> Result<G::TangentVector, Refusal>
+    ensures { result ≡ Calls.within_log G.group G.TangentVector.tangents block.now tolerance }
 {
-    let a = G::try_from_param_slice(block, tolerance)?;
-    manifold::within(a.leaves_series())?;
-    Ok(a)
+    let answer = G::try_from_param_slice(block, tolerance)?.log();
+    answer.within_turn()
 }
 
 #[tactic(auto, unfolding(crate::specs::Calls::log))]
 pub fn log<G: LieGroup>(block: &[f64], tolerance: f64) -> Result<G::TangentVector, Refusal>
-    ensures { result ≡ Calls.log G.group G.TangentVector.values block.now tolerance }
+    ensures { result ≡ Calls.log G.group G.TangentVector.tangents G.TangentVector.values block.now tolerance }
 {
-    manifold::answered(within_log::<G>(block, tolerance)?.log())
+    manifold::answered(within_log::<G>(block, tolerance)?)
 }
 
 // Vee is log.
 pub fn vee<G: LieGroup>(block: &[f64], tolerance: f64) -> Result<G::TangentVector, Refusal>
-    ensures { result ≡ Calls.log G.group G.TangentVector.values block.now tolerance }
+    ensures { result ≡ Calls.log G.group G.TangentVector.tangents G.TangentVector.values block.now tolerance }
 {
     log::<G>(block, tolerance)
 }
@@ -234,14 +233,12 @@ pub fn tangents<T: Tangent>(left: &[f64], right: &[f64]) -> Result<(T, T), Refus
     checks::both(T::try_from_slice(left), T::try_from_slice(right))
 }
 
-// The tangent, if exp does not refuse its turn.
+// The tangent, if its turn is not too large.
 #[tactic(auto, unfolding(crate::specs::Calls::within_exp))]
 pub fn within_exp<T: Tangent>(tangent: &[f64]) -> Result<T, Refusal>
     ensures { result ≡ Calls.within_exp T.tangents tangent.now }
 {
-    let t = T::try_from_slice(tangent)?;
-    manifold::within(t.turn_too_large())?;
-    Ok(t)
+    T::try_from_slice(tangent)?.within_turn()
 }
 
 #[tactic(auto, unfolding(crate::specs::Calls::exp))]
@@ -291,7 +288,7 @@ pub fn normalized_tangent<T: Tangent>(tangent: &[f64]) -> Result<T, Refusal>
     manifold::answered(t.normalized())
 }
 
-// ---- Between, and minus: it refuses 4 where the log of the difference would leave its series
+// ---- Between, and minus: it refuses 4 where its answer's turn is too large
 
 #[tactic(auto, unfolding(crate::specs::Calls::between))]
 pub fn between<G: LieGroup>(left: &[f64], right: &[f64], tolerance: f64) -> Result<G, Refusal>
@@ -324,18 +321,18 @@ pub fn between_jacobian_other<G: LieGroup>(
     compose_jacobian_other::<G>(left, right, tolerance)
 }
 
-// The elements, if the log of their difference stays in its series; on the right, and on the left.
+// The answer of minus, if its turn is not too large: of the one on the right, and of the one on the left with the element that it takes away, which
+// the Jacobians need.
 #[tactic(auto, unfolding(crate::specs::Calls::within_right_minus))]
 pub fn within_right_minus<G: LieGroup>(
     left: &[f64],
     right: &[f64],
     tolerance: f64,
-) -> Result<(G, G), Refusal>
-    ensures { result ≡ Calls.within_right_minus G.group left.now right.now tolerance }
+) -> Result<G::TangentVector, Refusal>
+    ensures { result ≡ Calls.within_right_minus G.group G.TangentVector.tangents left.now right.now tolerance }
 {
     let (a, b) = elements::<G>(left, right, tolerance)?;
-    manifold::within(b.between(a).leaves_series())?;
-    Ok((a, b))
+    a.right_minus(b).within_turn()
 }
 
 #[tactic(auto, unfolding(crate::specs::Calls::within_left_minus))]
@@ -343,12 +340,12 @@ pub fn within_left_minus<G: LieGroup>(
     left: &[f64],
     right: &[f64],
     tolerance: f64,
-) -> Result<(G, G), Refusal>
-    ensures { result ≡ Calls.within_left_minus G.group left.now right.now tolerance }
+) -> Result<(G::TangentVector, G), Refusal>
+    ensures { result ≡ Calls.within_left_minus G.group G.TangentVector.tangents left.now right.now tolerance }
 {
     let (a, b) = elements::<G>(left, right, tolerance)?;
-    manifold::within(a.left_between(b).leaves_series())?;
-    Ok((a, b))
+    let t = a.left_minus(b).within_turn()?;
+    Ok((t, b))
 }
 
 #[tactic(auto, unfolding(crate::specs::Calls::right_minus))]
@@ -357,10 +354,9 @@ pub fn right_minus<G: LieGroup>(
     right: &[f64],
     tolerance: f64,
 ) -> Result<G::TangentVector, Refusal>
-    ensures { result ≡ Calls.right_minus G.group G.TangentVector.values left.now right.now tolerance }
+    ensures { result ≡ Calls.right_minus G.group G.TangentVector.tangents G.TangentVector.values left.now right.now tolerance }
 {
-    let (a, b) = within_right_minus::<G>(left, right, tolerance)?;
-    manifold::answered(a.right_minus(b))
+    manifold::answered(within_right_minus::<G>(left, right, tolerance)?)
 }
 
 #[tactic(auto, unfolding(crate::specs::Calls::left_minus))]
@@ -369,10 +365,10 @@ pub fn left_minus<G: LieGroup>(
     right: &[f64],
     tolerance: f64,
 ) -> Result<G::TangentVector, Refusal>
-    ensures { result ≡ Calls.left_minus G.group G.TangentVector.values left.now right.now tolerance }
+    ensures { result ≡ Calls.left_minus G.group G.TangentVector.tangents G.TangentVector.values left.now right.now tolerance }
 {
-    let (a, b) = within_left_minus::<G>(left, right, tolerance)?;
-    manifold::answered(a.left_minus(b))
+    let (t, _) = within_left_minus::<G>(left, right, tolerance)?;
+    manifold::answered(t)
 }
 
 // Minus is the one on the right.
@@ -381,12 +377,12 @@ pub fn minus<G: LieGroup>(
     right: &[f64],
     tolerance: f64,
 ) -> Result<G::TangentVector, Refusal>
-    ensures { result ≡ Calls.right_minus G.group G.TangentVector.values left.now right.now tolerance }
+    ensures { result ≡ Calls.right_minus G.group G.TangentVector.tangents G.TangentVector.values left.now right.now tolerance }
 {
     right_minus::<G>(left, right, tolerance)
 }
 
-// ---- Plus: it refuses 4 where exp refuses its tangent
+// ---- Plus: it refuses 4 where its tangent's turn is too large
 
 pub fn element_and_tangent<G: LieGroup>(
     block: &[f64],
@@ -401,7 +397,7 @@ pub fn element_and_tangent<G: LieGroup>(
     )
 }
 
-// The element and the tangent, if exp does not refuse the turn.
+// The element and the tangent, if the turn is not too large.
 #[tactic(auto, unfolding(crate::specs::Calls::within_plus))]
 pub fn within_plus<G: LieGroup>(
     block: &[f64],
@@ -410,9 +406,8 @@ pub fn within_plus<G: LieGroup>(
 ) -> Result<(G, G::TangentVector), Refusal>
     ensures { result ≡ Calls.within_plus G.group G.TangentVector.tangents block.now tangent.now tolerance }
 {
-    let checked = element_and_tangent::<G>(block, tangent, tolerance)?;
-    manifold::within(checked.1.turn_too_large())?;
-    Ok(checked)
+    let (a, t) = element_and_tangent::<G>(block, tangent, tolerance)?;
+    Ok((a, t.within_turn()?))
 }
 
 #[tactic(auto, unfolding(crate::specs::Calls::right_plus))]

@@ -35,8 +35,8 @@ rotation_call r =
 -- the logarithm of a rotation, and what a rotation acts on
 unfoldable pub rotation_log_call : Request → Option (List ℕ)
 rotation_log_call r =
-    cond (eqb r.call 18) (Some (Outcomes.of Tangents.values 0 (Generic.log group Tangents.values r.left.now (Outcomes.tolerance r))))
-    (cond (eqb r.call 19) (Some (Outcomes.of Tangents.values 0 (Generic.log group Tangents.values r.left.now (Outcomes.tolerance r))))
+    cond (eqb r.call 18) (Some (Outcomes.of Tangents.values 0 (Generic.log group tangents Tangents.values r.left.now (Outcomes.tolerance r))))
+    (cond (eqb r.call 19) (Some (Outcomes.of Tangents.values 0 (Generic.log group tangents Tangents.values r.left.now (Outcomes.tolerance r))))
     (cond (eqb r.call 20) (Some (Outcomes.of matrix_values 9 (Rotations.log_jacobian r.left.now (Outcomes.tolerance r))))
     (cond (eqb r.call 21) (Some (Outcomes.of vector_values 0 (Generic.act group r.left.now r.right.now (Outcomes.tolerance r))))
     (cond (eqb r.call 22) (Some (Outcomes.of matrix_values 9 (Generic.act_jacobian_self group matrix_values r.left.now r.right.now (Outcomes.tolerance r))))
@@ -83,10 +83,10 @@ rotation_plus_call r =
 -- minus of two rotations, from either side
 unfoldable pub rotation_minus_call : Request → Option (List ℕ)
 rotation_minus_call r =
-    cond (eqb r.call 46) (Some (Outcomes.of Tangents.values 0 (Generic.right_minus group Tangents.values r.left.now r.right.now (Outcomes.tolerance r))))
+    cond (eqb r.call 46) (Some (Outcomes.of Tangents.values 0 (Generic.right_minus group tangents Tangents.values r.left.now r.right.now (Outcomes.tolerance r))))
     (cond (eqb r.call 47) (Some (Outcomes.of matrix_values 9 (Rotations.right_minus_jacobian_self r.left.now r.right.now (Outcomes.tolerance r))))
     (cond (eqb r.call 48) (Some (Outcomes.of matrix_values 9 (Rotations.right_minus_jacobian_other r.left.now r.right.now (Outcomes.tolerance r))))
-    (cond (eqb r.call 49) (Some (Outcomes.of Tangents.values 0 (Generic.left_minus group Tangents.values r.left.now r.right.now (Outcomes.tolerance r))))
+    (cond (eqb r.call 49) (Some (Outcomes.of Tangents.values 0 (Generic.left_minus group tangents Tangents.values r.left.now r.right.now (Outcomes.tolerance r))))
     (cond (eqb r.call 50) (Some (Outcomes.of matrix_values 9 (Rotations.left_minus_jacobian_self r.left.now r.right.now (Outcomes.tolerance r))))
     (cond (eqb r.call 51) (Some (Outcomes.of matrix_values 9 (Rotations.left_minus_jacobian_other r.left.now r.right.now (Outcomes.tolerance r))))
     None)))))
@@ -100,7 +100,7 @@ rotation_between_call r =
     (cond (eqb r.call 55) (Some (Outcomes.of Elements.values 0 (Generic.right_plus group tangents Elements.values r.left.now r.right.now (Outcomes.tolerance r))))
     (cond (eqb r.call 56) (Some (Outcomes.of matrix_values 9 (Generic.right_plus_jacobian_self group tangents matrix_values (λ m. m) r.left.now r.right.now (Outcomes.tolerance r))))
     (cond (eqb r.call 57) (Some (Outcomes.of matrix_values 9 (Rotations.right_plus_jacobian_tangent r.left.now r.right.now (Outcomes.tolerance r))))
-    (cond (eqb r.call 58) (Some (Outcomes.of Tangents.values 0 (Generic.right_minus group Tangents.values r.left.now r.right.now (Outcomes.tolerance r))))
+    (cond (eqb r.call 58) (Some (Outcomes.of Tangents.values 0 (Generic.right_minus group tangents Tangents.values r.left.now r.right.now (Outcomes.tolerance r))))
     (cond (eqb r.call 59) (Some (Outcomes.of matrix_values 9 (Rotations.right_minus_jacobian_self r.left.now r.right.now (Outcomes.tolerance r))))
     (cond (eqb r.call 60) (Some (Outcomes.of matrix_values 9 (Rotations.right_minus_jacobian_other r.left.now r.right.now (Outcomes.tolerance r))))
     None))))))))
@@ -114,6 +114,10 @@ sine_call r =
     None))
     None
 
+-- the half-angle of a rotation
+unfoldable pub half_angle_call : Request → Option (List ℕ)
+half_angle_call r = cond (eqb r.call 63) (Some (Outcomes.of (λ x. x ∷ []) 0 (Rotations.half_angle r.left.now (Outcomes.tolerance r)))) None
+
 unfoldable pub answer : Request → Option (List ℕ)
 answer r =
     cond (ltb r.call 18) (rotation_call r)
@@ -123,4 +127,5 @@ answer r =
     (cond (ltb r.call 46) (rotation_plus_call r)
     (cond (ltb r.call 52) (rotation_minus_call r)
     (cond (ltb r.call 61) (rotation_between_call r)
-    (sine_call r)))))))
+    (cond (ltb r.call 63) (sine_call r)
+    (half_angle_call r))))))))

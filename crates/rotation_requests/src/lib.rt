@@ -1,4 +1,4 @@
-// A request on rotations, or for a sine or a cosine, answered: the calls 10 to 62 by their numbers, and the outcome of each as bytes. None where there is no such call.
+// A request on rotations, or for a sine or a cosine, answered: the calls 10 to 63 by their numbers, and the outcome of each as bytes. None where there is no such call.
 // The numbers are the format's: an enum or a table of the calls would list them a second time. In parts, since each arm is a case of its function's
 // proof. The calls of the other group have numbers of their own, so an arm that differs from one there in its type alone can't stand once for both.
 #![tactic(auto)]
@@ -251,6 +251,17 @@ fn sine_call(r: Request<'_>, out: &mut [u8; 832]) -> Option<usize>
     }
 }
 
+// The half-angle of a rotation.
+#[tactic(auto, unfolding(crate::specs::Requests::half_angle_call, outcomes::specs::Outcomes::Answered))]
+fn half_angle_call(r: Request<'_>, out: &mut [u8; 832]) -> Option<usize>
+    ensures { Outcomes.Answered result out.old out.new (Requests.half_angle_call r.entry) }
+{
+    match r.call {
+        63 => Some(outcomes::put(out, so3_blocks::half_angle(r.left, r.tolerance()))),
+        _ => None,
+    }
+}
+
 // Of four values: the one call that takes no block.
 #[tactic(auto, unfolding(crate::specs::Requests::quaternion_call, outcomes::specs::Outcomes::Answered))]
 fn quaternion_call(r: Request<'_>, out: &mut [u8; 832]) -> Option<usize>
@@ -292,5 +303,8 @@ pub fn answer(r: Request<'_>, out: &mut [u8; 832]) -> Option<usize>
     if r.call < 61 {
         return rotation_between_call(r, out);
     }
-    sine_call(r, out)
+    if r.call < 63 {
+        return sine_call(r, out);
+    }
+    half_angle_call(r, out)
 }

@@ -1,19 +1,21 @@
 -- Elements of SGal(3): the formulas of the group at the rounded operations, and the eleven values of a block. Definitions only.
 use Rattle.std.specs.Prelude.{Bool, ◌&&◌, List, [], ◌∷◌, get_or, Float}
 use Rattle.std.specs.Float.{nan}
-use Rattle.law.specs.Rounded.{rounded, divisors}
+use Rattle.law.specs.Rounded.{rounded}
 use Rattle.law.specs.Rotation as Rotation
 use Rattle.law.specs.Galilean as Law
 use Rattle.law.specs.GalileanSeries as Series
 use Rattle.checks.specs.Checks.{all_finite}
-use Rattle.linear.specs.Records.{vector, vec3, quaternion, of_quaternion, mat3}
+use Rattle.linear.specs.Records.{vector, vec3, quaternion, of_quaternion, matrix, mat3}
 use Rattle.linear.specs.declared.Vec3.{Vec3}
 use Rattle.linear.specs.declared.Quaternion.{Quaternion}
 use Rattle.linear.specs.declared.Mat3.{Mat3}
 use Rattle.manifold.specs.Answers.{vector_at, quaternion_at}
 use Rattle.so3.specs.Elements as So3
+use Rattle.so3.specs.Tangents as So3-as-Tangents
+use Rattle.so3.specs.declared.Tangent as Turns
 use Rattle.so3.specs.declared.Element.{Element as So3-as-Element}
-use Rattle.sgal3.specs.Tangents.{of_tangent}
+use Rattle.sgal3.specs.Tangents.{of_tangent, s_nu_coupling}
 use Rattle.sgal3.specs.declared.Element.{Element}
 use Rattle.sgal3.specs.declared.Tangent.{Tangent}
 
@@ -56,9 +58,12 @@ is_valid a tolerance =
     all_finite (a.translation.x ∷ a.translation.y ∷ a.translation.z ∷ a.velocity.x ∷ a.velocity.y ∷ a.velocity.z ∷ a.time ∷ [])
     && So3.is_valid (rotation_impl a) tolerance
 
--- theta is SO(3)'s log of the rotation
+-- ---- log: by the rotation's log t, and the inverse of the left Jacobian and M of its theta
+unfoldable pub log_by : Turns.Tangent → Mat3 → Mat3 → Element → Tangent
+log_by t j m a = of_tangent (Series.log_by rounded (matrix j) (matrix m) (vector t.theta) (element a))
+
 unfoldable pub log : Element → Tangent
-log a = of_tangent (Series.log_at rounded divisors (vector (So3.log (rotation_impl a)).theta) (element a))
+log a = let t = So3.log (rotation_impl a) in log_by t (So3-as-Tangents.left_jacobian_inv t) (s_nu_coupling t) a
 
 -- translation, quaternion w, x, y, z, velocity, time
 unfoldable pub coeffs : Element → List Float

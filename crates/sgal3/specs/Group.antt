@@ -2,7 +2,6 @@
 use Rattle.std.specs.Prelude.{Bool, List, Float}
 use Rattle.manifold.specs.Group as Manifold
 use Rattle.sgal3_rows.specs.declared.Adjoint.{Adjoint}
-use Rattle.so3.specs.Group as So3
 use Rattle.so3.specs.Tangents as So3-as-Tangents
 use Rattle.sgal3.specs.Elements as Elements
 use Rattle.sgal3.specs.Tangents as Tangents
@@ -11,11 +10,7 @@ use Rattle.sgal3.specs.Algebra as Algebra
 use Rattle.sgal3.specs.declared.Element.{Element}
 use Rattle.sgal3.specs.declared.Tangent.{Tangent}
 
--- log tests the squared theta of its own answer, and the half angle
-unfoldable pub log_leaves_series : Element → Bool
-log_leaves_series a = So3.log_jacobian_leaves_series (Elements.rotation_impl a)
-
--- the calls of exp and plus test the squared theta
+-- the squared theta is tested
 unfoldable pub turn_too_large : Tangent → Bool
 turn_too_large t = So3-as-Tangents.turn_too_large (Tangents.turn t)
 
@@ -29,7 +24,6 @@ group =
       compose = Elements.compose;
       inverse = Elements.inverse;
       log = Elements.log;
-      leaves_series = log_leaves_series;
       act = Elements.act;
       rotation_matrix = Elements.rotation_matrix;
       normalize = Elements.normalize;

@@ -60,6 +60,20 @@ impl Element {
         [t.x, t.y, t.z, q.w, q.x, q.y, q.z, v.x, v.y, v.z, self.time]
     }
 
+    // Log by the rotation's own, and the inverse of the left Jacobian and M of its theta.
+    fn log_by(self, turn: so3::Tangent, v_inv: Mat3, coupling: Mat3) -> Tangent
+        ensures { result ≡ Elements.log_by turn v_inv coupling self }
+    {
+        let nu = v_inv.apply(self.velocity);
+        let rho = v_inv.apply(self.translation.sub(coupling.apply(nu).scale(self.time)));
+        Tangent {
+            rho,
+            nu,
+            theta: turn.theta,
+            s: self.time,
+        }
+    }
+
     // Velocity in column 3, translation in column 4.
     #[tactic(auto, unfolding(crate::specs::Matrices::matrix, crate::specs::Elements::rotation_matrix, law::specs::Galilean::matrix, law::specs::Galilean::matrix_at, law::specs::Galilean::row5, law::specs::Galilean::rotation_matrix, law::specs::Rotation::rotation_matrix, law::specs::Rows::by_row, law::specs::Vector::zero))]
     pub fn matrix(self) -> [f64; 25]
@@ -177,26 +191,18 @@ impl LieGroup for Element {
         }
     }
 
-    // The series branch; the call refuses where it would be left.
+    // SO(3)'s log chooses its branch by x² + y² + z², the inverse Jacobian and M choose theirs by the squared theta of its answer; these two share the angle,
+    // its sine and its cosine.
     fn log(self) -> Tangent {
         let turn = self.rotation_impl().log();
-        let theta = turn.theta;
-        let v_inv = turn.left_jacobian_inv();
-        let nu = v_inv.apply(self.velocity);
-        let coupling = s_nu_coupling_series(theta);
-        let rho = v_inv.apply(self.translation.sub(coupling.apply(nu).scale(self.time)));
-        Tangent {
-            rho,
-            nu,
-            theta,
-            s: self.time,
+        if turn.leaves_series() {
+            let w = Angle::of_square(turn.theta_squared());
+            let v_inv = turn.left_jacobian_inv_closed(w);
+            self.log_by(turn, v_inv, s_nu_coupling_closed(turn.theta, w))
+        } else {
+            let v_inv = turn.left_jacobian_inv_series();
+            self.log_by(turn, v_inv, s_nu_coupling_series(turn.theta))
         }
-    }
-
-    // Log tests the half angle, and the squared theta of its own answer.
-    #[tactic(auto, unfolding(crate::specs::Group::log_leaves_series))]
-    fn leaves_series(self) -> bool {
-        self.rotation_impl().log_jacobian_leaves_series()
     }
 
     // The point is taken at the element's own time.
@@ -432,7 +438,7 @@ impl manifold::Tangent for Tangent {
         }
     }
 
-    // The calls of exp and plus test the squared theta.
+    // The squared theta is tested.
     #[tactic(auto, unfolding(crate::specs::Group::turn_too_large))]
     fn turn_too_large(self) -> bool {
         self.turn().turn_too_large()

@@ -1,4 +1,5 @@
-// exp, and log and the adjoint, short and in full, at 1e-6, for C and Rust, to be timed there: a call on a block of values, and its outcome as bytes.
+// exp, and log of both groups and the adjoint, short and in full, at 1e-6, for C and Rust, to be timed there: a call on a block of values, and its
+// outcome as bytes.
 #![tactic(auto)]
 
 ghost use Rattle.checks.specs.Checks as Checks;
@@ -9,6 +10,8 @@ ghost use Rattle.sgal3.specs.Group.{group, tangents};
 ghost use Rattle.sgal3.specs.Tangents as Tangents;
 ghost use Rattle.sgal3_rows.specs.Adjoints as Adjoints;
 ghost use Rattle.sgal3_rows.specs.TenRows as TenRows;
+ghost use Rattle.so3.specs.Group as So3;
+ghost use Rattle.so3.specs.Tangents as So3Tangents;
 
 use sgal3::{Element, Tangent};
 
@@ -23,11 +26,21 @@ pub extern "C" fn sgal3_exp(tangent: &[f64], out: &mut [u8; 832]) -> usize
 
 #[unsafe(no_mangle)]
 pub extern "C" fn sgal3_log(block: &[f64], out: &mut [u8; 832]) -> usize
-    ensures { Outcomes.Put result out.old out.new (Outcomes.of Tangents.coeffs 0 (Calls.log group Tangents.coeffs block.now Checks.tolerance)) }
+    ensures { Outcomes.Put result out.old out.new (Outcomes.of Tangents.coeffs 0 (Calls.log group tangents Tangents.coeffs block.now Checks.tolerance)) }
 {
     outcomes::put(
         out,
         manifold_blocks::log::<Element>(block, checks::tolerance()),
+    )
+}
+
+#[unsafe(no_mangle)]
+pub extern "C" fn so3_log(block: &[f64], out: &mut [u8; 832]) -> usize
+    ensures { Outcomes.Put result out.old out.new (Outcomes.of So3Tangents.values 0 (Calls.log So3.group So3.tangents So3Tangents.values block.now Checks.tolerance)) }
+{
+    outcomes::put(
+        out,
+        manifold_blocks::log::<so3::Element>(block, checks::tolerance()),
     )
 }
 

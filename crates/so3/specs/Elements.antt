@@ -4,17 +4,21 @@ use Rattle.std.specs.Float.{binary64}
 use Rattle.std.specs.Float.Ieee.{sub, neg, lt}
 use Rattle.std.specs.Float.Ieee.Scale.{finite}
 use Rattle.float.specs.Exact.{abs}
+use Rattle.float.specs.Root.{square_root}
+use Rattle.half_angle.specs.HalfAngles as HalfAngles
 use Rattle.checks.specs.Checks.{norm_of}
 use Rattle.law.specs.Rounded.{rounded}
 use Rattle.law.specs.Vector as Vector
 use Rattle.law.specs.Quaternion as Law-as-Quaternion
 use Rattle.law.specs.Rotation as Law
 use Rattle.law.specs.Series as Series
+use Rattle.law.specs.ClosedForms as ClosedForms
 use Rattle.linear.specs.Records.{vector, vec3, quaternion, of_quaternion, mat3}
 use Rattle.linear.specs.declared.Vec3.{Vec3}
 use Rattle.linear.specs.declared.Quaternion.{Quaternion}
 use Rattle.linear.specs.declared.Mat3.{Mat3}
 use Rattle.manifold.specs.Answers.{quaternion_at}
+use Rattle.manifold.specs.Answers as Answers
 use Rattle.so3.specs.declared.Element.{Element}
 use Rattle.so3.specs.declared.Tangent.{Tangent}
 
@@ -64,16 +68,30 @@ adjoint a = mat3 (Law.adjoint rounded (element a))
 unfoldable pub normalize : Element → Element
 normalize a = of_element (Law.normalize rounded (element a))
 
--- x² + y² + z² of the unit quaternion: log tests the half angle
-unfoldable pub sin_angle_squared : Element → Float
-sin_angle_squared a = Vector.norm_squared rounded (Law-as-Quaternion.vector rounded (Law.unit_quaternion rounded (element a)))
+-- ---- log, of a unit quaternion q: the norm of its vector part is the sine of half the angle, |w| the cosine
+unfoldable pub sin_angle_squared : Quaternion → Float
+sin_angle_squared q = Vector.norm_squared rounded (Law-as-Quaternion.vector rounded (quaternion q))
 
--- 2, or -2 where w < 0
-unfoldable pub log_coeff : Float → Float
-log_coeff w = cond (lt w rounded.zero) (neg rounded.two) rounded.two
+unfoldable pub half_angle_of : Quaternion → Float
+half_angle_of q = HalfAngles.half_angle (square_root (sin_angle_squared q)) (abs q.w)
+
+-- a, or -a where w < 0: q and -q are the same rotation
+unfoldable pub mirrored : Float → Float → Float
+mirrored w a = cond (lt w rounded.zero) (neg a) a
+
+-- above the limit by the half-angle; up to it 2, or -2 where w < 0
+unfoldable pub log_coeff : Quaternion → Float
+log_coeff q =
+    let t = sin_angle_squared q in
+    cond (Answers.leaves_series t)
+    (ClosedForms.log_coefficient rounded (mirrored q.w (half_angle_of q)) (square_root t))
+    (mirrored q.w rounded.two)
+
+unfoldable pub half_angle : Element → Float
+half_angle a = half_angle_of (unit_quaternion a)
 
 unfoldable pub log : Element → Tangent
-log a = record { theta = vec3 (Series.log_by rounded (log_coeff (Law.unit_quaternion rounded (element a)).w) (Law.unit_quaternion rounded (element a))) }
+log a = let q = unit_quaternion a in record { theta = vec3 (Series.log_by rounded (log_coeff q) (quaternion q)) }
 
 -- a norm less than the tolerance from 1, and a finite tolerance
 unfoldable pub is_valid : Element → Float → Bool
@@ -90,7 +108,3 @@ compose_jacobian_self a b = mat3 (Law.compose_jacobian_self rounded (element a) 
 
 unfoldable pub act_jacobian_self : Element → Vec3 → Mat3
 act_jacobian_self a p = mat3 (Law.act_jacobian_self rounded (element a) (vector p))
-
--- the inverse of the right Jacobian at log's own answer
-unfoldable pub log_jacobian : Element → Mat3
-log_jacobian a = mat3 (Series.right_jacobian_inv rounded (vector (log a).theta))

@@ -1,6 +1,4 @@
 -- SO(3) as a group with its tangents. Definitions only.
-use Rattle.std.specs.Prelude.{Bool, ◌||◌}
-use Rattle.manifold.specs.Answers as Answers
 use Rattle.manifold.specs.Group as Manifold
 use Rattle.linear.specs.Matrices as Matrices
 use Rattle.linear.specs.declared.Mat3.{Mat3}
@@ -8,14 +6,6 @@ use Rattle.so3.specs.Elements as Elements
 use Rattle.so3.specs.Tangents as Tangents
 use Rattle.so3.specs.declared.Element.{Element}
 use Rattle.so3.specs.declared.Tangent.{Tangent}
-
--- log tests the half angle
-unfoldable pub log_leaves_series : Element → Bool
-log_leaves_series a = Answers.leaves_series (Elements.sin_angle_squared a)
-
--- log's Jacobian tests the squared angle of log's answer as well
-unfoldable pub log_jacobian_leaves_series : Element → Bool
-log_jacobian_leaves_series a = Tangents.leaves_series (Elements.log a) || log_leaves_series a
 
 abbrev pub group : Manifold.Group Element Tangent Mat3 Mat3 Mat3
 group =
@@ -27,7 +17,6 @@ group =
       compose = Elements.compose;
       inverse = Elements.inverse;
       log = Elements.log;
-      leaves_series = log_leaves_series;
       act = Elements.act;
       rotation_matrix = Elements.rotation_matrix;
       normalize = Elements.normalize;

@@ -1,5 +1,4 @@
--- Tangents of SO(3): exp and the Jacobians at the rounded operations, by their series up to the limit, exp and the Jacobians that are not inverses by
--- their closed forms above it. Definitions only.
+-- Tangents of SO(3): exp and the Jacobians at the rounded operations, by their series up to the limit, by their closed forms above it. Definitions only.
 use Rattle.std.specs.Prelude.{ℕ, Bool, cond, List, eqb, Float}
 use Rattle.std.specs.Float.{binary64}
 use Rattle.std.specs.Float.Ieee.{of_bits, lt}
@@ -42,7 +41,7 @@ theta_squared a = Law-as-Vector.norm_squared rounded (θ a)
 unfoldable pub leaves_series : Tangent → Bool
 leaves_series a = Answers.leaves_series (theta_squared a)
 
--- a squared angle above 9: the calls of exp, plus and the Jacobians that are not inverses refuse it
+-- a squared angle above 9: the calls of exp, plus, log and minus, and of their Jacobians, refuse it
 unfoldable pub turn_too_large : Tangent → Bool
 turn_too_large a = Answers.turn_too_large (theta_squared a)
 
@@ -54,16 +53,16 @@ exp_series a = record { params = of_quaternion (Series.exp rounded (θ a)) }
 abbrev pub half : Tangent → Law-as-Vector.Vector Float
 half a = Law-as-Vector.divide rounded (θ a) rounded.two
 
-abbrev pub half_angle : Tangent → Angle
-half_angle a = of_square (Law-as-Vector.norm_squared rounded (half a))
+abbrev pub angle_of_half : Tangent → Angle
+angle_of_half a = of_square (Law-as-Vector.norm_squared rounded (half a))
 
 unfoldable pub exp_closed : Tangent → Element
-exp_closed a = record { params = of_quaternion (ClosedForms.exp rounded (angle (half_angle a)) (half a)) }
+exp_closed a = record { params = of_quaternion (ClosedForms.exp rounded (angle (angle_of_half a)) (half a)) }
 
 unfoldable pub exp : Tangent → Element
 exp a = cond (leaves_series a) (exp_closed a) (exp_series a)
 
--- ---- the Jacobians that are not inverses
+-- ---- the Jacobians
 unfoldable pub left_jacobian_series : Tangent → Mat3
 left_jacobian_series a = mat3 (Series.left_jacobian rounded (θ a))
 
@@ -76,12 +75,18 @@ left_jacobian a = cond (leaves_series a) (left_jacobian_closed (of_square (theta
 unfoldable pub right_jacobian : Tangent → Mat3
 right_jacobian a = Matrices.transpose (left_jacobian a)
 
--- ---- the inverse Jacobians: their series alone
+-- ---- their inverses
+unfoldable pub left_jacobian_inv_series : Tangent → Mat3
+left_jacobian_inv_series a = mat3 (Series.left_jacobian_inv rounded (θ a))
+
+unfoldable pub left_jacobian_inv_closed : Angle → Tangent → Mat3
+left_jacobian_inv_closed w a = mat3 (ClosedForms.left_jacobian_inv rounded (angle w) (θ a))
+
 unfoldable pub left_jacobian_inv : Tangent → Mat3
-left_jacobian_inv a = mat3 (Series.left_jacobian_inv rounded (θ a))
+left_jacobian_inv a = cond (leaves_series a) (left_jacobian_inv_closed (of_square (theta_squared a)) a) (left_jacobian_inv_series a)
 
 unfoldable pub right_jacobian_inv : Tangent → Mat3
-right_jacobian_inv a = mat3 (Series.right_jacobian_inv rounded (θ a))
+right_jacobian_inv a = Matrices.transpose (left_jacobian_inv a)
 
 unfoldable pub hat : Tangent → Mat3
 hat a = mat3 (Law-as-Matrix.hat rounded (θ a))

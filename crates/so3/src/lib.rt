@@ -60,66 +60,23 @@ impl Element {
         self.params.normalize()
     }
 
-    // The squared sine of half the angle: what log tests.
-    #[tactic(auto, unfolding(crate::specs::Elements::sin_angle_squared, crate::specs::Elements::unit_quaternion, linear::specs::Quaternions::vector, linear::specs::Vectors::norm_squared))]
-    pub fn sin_angle_squared(self) -> f64
-        ensures { result ≡ Elements.sin_angle_squared self }
+    // Half of the angle, from 0 to 1.6: q and -q have the same.
+    #[tactic(auto, unfolding(crate::specs::Elements::half_angle, crate::specs::Elements::half_angle_of, crate::specs::Elements::sin_angle_squared, linear::specs::Quaternions::vector, linear::specs::Vectors::norm_squared))]
+    pub fn half_angle(self) -> f64
+        ensures { result ≡ Elements.half_angle self }
     {
-        self.unit_quaternion().vector().norm_squared()
+        let q = self.unit_quaternion();
+        let s = float::general_sqrt(q.vector().norm_squared());
+        half_angle::half_angle(s, float::magnitude(q.w))
     }
 
-    #[tactic(auto, unfolding(crate::specs::Elements::log_jacobian, crate::specs::Tangents::right_jacobian_inv))]
-    pub fn log_jacobian(self) -> Mat3
-        ensures { result ≡ Elements.log_jacobian self }
-    {
-        self.log().right_jacobian_inv()
-    }
-
-    // Log's Jacobian tests the half angle, and the squared angle of log's answer.
-    #[tactic(auto, unfolding(crate::specs::Group::log_jacobian_leaves_series))]
-    pub fn log_jacobian_leaves_series(self) -> bool
-        ensures { result ≡ Group.log_jacobian_leaves_series self }
-    {
-        self.log().leaves_series() || self.leaves_series()
-    }
-
-    // ---- Jacobians of plus and minus; the others are those of any group
+    // ---- Of plus with respect to its tangent, on the left; on the right it is the tangent's right Jacobian
 
     #[tactic(auto, unfolding(crate::specs::Jacobians::left_plus_jacobian_tangent))]
     pub fn left_plus_jacobian_tangent(self, t: Tangent) -> Mat3
         ensures { result ≡ Jacobians.left_plus_jacobian_tangent self t }
     {
         self.inverse().adjoint().mul(t.right_jacobian())
-    }
-
-    #[tactic(auto, unfolding(crate::specs::Jacobians::right_minus_jacobian_self))]
-    pub fn right_minus_jacobian_self(self, other: Element) -> Mat3
-        ensures { result ≡ Jacobians.right_minus_jacobian_self self other }
-    {
-        self.right_minus(other).right_jacobian_inv()
-    }
-
-    #[tactic(auto, unfolding(crate::specs::Jacobians::right_minus_jacobian_other))]
-    pub fn right_minus_jacobian_other(self, other: Element) -> Mat3
-        ensures { result ≡ Jacobians.right_minus_jacobian_other self other }
-    {
-        self.right_minus(other).left_jacobian_inv().neg()
-    }
-
-    #[tactic(auto, unfolding(crate::specs::Jacobians::left_minus_jacobian_self))]
-    pub fn left_minus_jacobian_self(self, other: Element) -> Mat3
-        ensures { result ≡ Jacobians.left_minus_jacobian_self self other }
-    {
-        self.left_minus(other)
-            .right_jacobian_inv()
-            .mul(other.adjoint())
-    }
-
-    #[tactic(auto, unfolding(crate::specs::Jacobians::left_minus_jacobian_other))]
-    pub fn left_minus_jacobian_other(self, other: Element) -> Mat3
-        ensures { result ≡ Jacobians.left_minus_jacobian_other self other }
-    {
-        self.left_minus_jacobian_self(other).neg()
     }
 }
 
@@ -167,11 +124,6 @@ impl LieGroup for Element {
         }
     }
 
-    #[tactic(auto, unfolding(crate::specs::Group::log_leaves_series))]
-    fn leaves_series(self) -> bool {
-        manifold::leaves_series(self.sin_angle_squared())
-    }
-
     fn jacobian_identity() -> Mat3 {
         Mat3::identity()
     }
@@ -197,11 +149,10 @@ impl LieGroup for Element {
         }
     }
 
-    // The series branch; the call refuses where it would be left.
     fn log(self) -> Tangent {
         let q = self.unit_quaternion();
         Tangent {
-            theta: q.vector().scale(log_coeff(q.w)),
+            theta: q.vector().scale(log_coeff(q)),
         }
     }
 
@@ -280,12 +231,27 @@ impl Angle {
     }
 }
 
-// 2, or -2 where w is below zero: q and -q are the same rotation.
-#[tactic(auto, unfolding(crate::specs::Elements::log_coeff))]
-fn log_coeff(w: f64) -> f64
-    ensures { result ≡ Elements.log_coeff w }
+// Negated where w is below zero: q and -q are the same rotation.
+#[tactic(auto, unfolding(crate::specs::Elements::mirrored))]
+fn mirrored(w: f64, a: f64) -> f64
+    ensures { result ≡ Elements.mirrored w a }
 {
-    if w < 0.0 { -2.0 } else { 2.0 }
+    if w < 0.0 { -a } else { a }
+}
+
+// What log multiplies the vector part of a unit quaternion by.
+#[tactic(auto, unfolding(crate::specs::Elements::log_coeff, crate::specs::Elements::half_angle_of, crate::specs::Elements::sin_angle_squared, linear::specs::Quaternions::vector, linear::specs::Vectors::norm_squared, law::specs::ClosedForms::log_coefficient))]
+fn log_coeff(q: Quaternion) -> f64
+    ensures { result ≡ Elements.log_coeff q }
+{
+    let sin_angle_squared = q.vector().norm_squared();
+    if manifold::leaves_series(sin_angle_squared) {
+        let sin_angle = float::general_sqrt(sin_angle_squared);
+        let a = half_angle::half_angle(sin_angle, float::magnitude(q.w));
+        2.0 * mirrored(q.w, a) / sin_angle
+    } else {
+        mirrored(q.w, 2.0)
+    }
 }
 
 impl Tangent {
@@ -320,7 +286,7 @@ impl Tangent {
         manifold::leaves_series(self.theta_squared())
     }
 
-    // ---- Exp and the left Jacobian, each by its series and by its closed form
+    // ---- Exp, the left Jacobian and its inverse, each by its series and by its closed form
 
     #[tactic(auto, unfolding(crate::specs::Tangents::exp_series, linear::specs::Quaternions::normalize, law::specs::Series::exp, law::specs::Rotation::unit_quaternion))]
     pub fn exp_series(self) -> Element
@@ -390,18 +356,60 @@ impl Tangent {
         self.left_jacobian().transpose()
     }
 
-    // ---- The inverse Jacobians: the series; the calls refuse where it would be left
-
-    pub fn left_jacobian_inv(self) -> Mat3
-        ensures { result ≡ Tangents.left_jacobian_inv self }
+    pub fn left_jacobian_inv_series(self) -> Mat3
+        ensures { result ≡ Tangents.left_jacobian_inv_series self }
     {
         Mat3::identity().sub(self.hat().scale(0.5))
     }
 
+    // Over an angle that is given: SGal(3)'s log needs it elsewhere too.
+    pub fn left_jacobian_inv_closed(self, w: Angle) -> Mat3
+        ensures { result ≡ Tangents.left_jacobian_inv_closed w self }
+    {
+        let skew = self.hat();
+        let k = 1.0 / w.squared - (1.0 + w.cosine) / (2.0 * w.angle * w.sine);
+        self.left_jacobian_inv_series().add(skew.scale(k).mul(skew))
+    }
+
+    #[tactic(auto, unfolding(crate::specs::Tangents::left_jacobian_inv))]
+    pub fn left_jacobian_inv(self) -> Mat3
+        ensures { result ≡ Tangents.left_jacobian_inv self }
+    {
+        if self.leaves_series() {
+            self.left_jacobian_inv_closed(Angle::of_square(self.theta_squared()))
+        } else {
+            self.left_jacobian_inv_series()
+        }
+    }
+
+    #[tactic(auto, unfolding(crate::specs::Tangents::right_jacobian_inv))]
     pub fn right_jacobian_inv(self) -> Mat3
         ensures { result ≡ Tangents.right_jacobian_inv self }
     {
         self.left_jacobian_inv().transpose()
+    }
+
+    // ---- Jacobians of minus, at its answer. Of the one on the right with respect to self, and of log, it is the inverse of the right Jacobian
+
+    #[tactic(auto, unfolding(crate::specs::Jacobians::right_minus_jacobian_other))]
+    pub fn right_minus_jacobian_other(self) -> Mat3
+        ensures { result ≡ Jacobians.right_minus_jacobian_other self }
+    {
+        self.left_jacobian_inv().neg()
+    }
+
+    #[tactic(auto, unfolding(crate::specs::Jacobians::left_minus_jacobian_self))]
+    pub fn left_minus_jacobian_self(self, other: Element) -> Mat3
+        ensures { result ≡ Jacobians.left_minus_jacobian_self self other }
+    {
+        self.right_jacobian_inv().mul(other.adjoint())
+    }
+
+    #[tactic(auto, unfolding(crate::specs::Jacobians::left_minus_jacobian_other))]
+    pub fn left_minus_jacobian_other(self, other: Element) -> Mat3
+        ensures { result ≡ Jacobians.left_minus_jacobian_other self other }
+    {
+        self.left_minus_jacobian_self(other).neg()
     }
 }
 

@@ -11,26 +11,26 @@ use Rattle.checks.specs.declared.Refusal.TheVariants.{NotFinite}
 use Rattle.linear.specs.Records.{matrix_values}
 use Rattle.linear.specs.declared.Mat3.{Mat3}
 use Rattle.manifold.specs.Answers.{answered, within}
-use Rattle.manifold.specs.Operations.{between, left_between}
 use Rattle.manifold_blocks.specs.Calls as Generic
 use Rattle.so3.specs.Elements as Elements
 use Rattle.so3.specs.Tangents as Tangents
 use Rattle.so3.specs.Jacobians as Jacobians
-use Rattle.so3.specs.Group.{group, tangents, log_jacobian_leaves_series}
+use Rattle.so3.specs.Group.{group, tangents}
 use Rattle.so3.specs.declared.Element.{Element}
-use Rattle.so3.specs.declared.Tangent.{Tangent}
 
 -- the one call of four values instead of a block: normalised once
 unfoldable pub try_from_quaternion_wxyz : Float → Float → Float → Float → Float → Result Element Refusal
 try_from_quaternion_wxyz w x y z tolerance =
     and_then (check_unit_quaternion (w ∷ x ∷ y ∷ z ∷ []) tolerance) (λ _. answered Elements.values (Elements.from_quaternion_wxyz w x y z))
 
--- ---- Jacobians of log and exp: those of log and the inverse ones refused where a series is left, the others where exp is
-unfoldable pub within_log_jacobian : List Float → Float → Result Element Refusal
-within_log_jacobian block tolerance = and_then (Generic.element group block tolerance) (λ a. and_then (within (log_jacobian_leaves_series a)) (λ _. Ok a))
+-- of the unit quaternion that log reads
+unfoldable pub half_angle : List Float → Float → Result Float Refusal
+half_angle block tolerance = and_then (Generic.element group block tolerance) (λ a. Ok (Elements.half_angle a))
 
+-- ---- Jacobians of log and exp: refused where log and exp are
+-- the inverse of the right one, at log's answer
 unfoldable pub log_jacobian : List Float → Float → Result Mat3 Refusal
-log_jacobian block tolerance = and_then (within_log_jacobian block tolerance) (λ a. answered matrix_values (Elements.log_jacobian a))
+log_jacobian block tolerance = and_then (Generic.within_log group tangents block tolerance) (λ t. answered matrix_values (Tangents.right_jacobian_inv t))
 
 unfoldable pub left_jacobian : List Float → Result Mat3 Refusal
 left_jacobian tangent = and_then (Generic.within_exp tangents tangent) (λ t. answered matrix_values (Tangents.left_jacobian t))
@@ -38,14 +38,11 @@ left_jacobian tangent = and_then (Generic.within_exp tangents tangent) (λ t. an
 unfoldable pub right_jacobian : List Float → Result Mat3 Refusal
 right_jacobian tangent = and_then (Generic.within_exp tangents tangent) (λ t. answered matrix_values (Tangents.right_jacobian t))
 
-unfoldable pub within_series : List Float → Result Tangent Refusal
-within_series tangent = and_then (Generic.tangent tangents tangent) (λ t. and_then (within (Tangents.leaves_series t)) (λ _. Ok t))
-
 unfoldable pub left_jacobian_inv : List Float → Result Mat3 Refusal
-left_jacobian_inv tangent = and_then (within_series tangent) (λ t. answered matrix_values (Tangents.left_jacobian_inv t))
+left_jacobian_inv tangent = and_then (Generic.within_exp tangents tangent) (λ t. answered matrix_values (Tangents.left_jacobian_inv t))
 
 unfoldable pub right_jacobian_inv : List Float → Result Mat3 Refusal
-right_jacobian_inv tangent = and_then (within_series tangent) (λ t. answered matrix_values (Tangents.right_jacobian_inv t))
+right_jacobian_inv tangent = and_then (Generic.within_exp tangents tangent) (λ t. answered matrix_values (Tangents.right_jacobian_inv t))
 
 -- ---- of plus with respect to its tangent
 unfoldable pub right_plus_jacobian_tangent : List Float → List Float → Float → Result Mat3 Refusal
@@ -55,28 +52,22 @@ unfoldable pub left_plus_jacobian_tangent : List Float → List Float → Float 
 left_plus_jacobian_tangent block tangent tolerance =
     and_then (Generic.within_plus group tangents block tangent tolerance) (λ p. answered matrix_values (Jacobians.left_plus_jacobian_tangent p.0 p.1))
 
--- ---- of minus: refused where the Jacobian of the difference's log leaves a series
--- the two elements, where the difference d stays within
-abbrev within_jacobian : Element → Element × Element → Result (Element × Element) Refusal
-within_jacobian d p = and_then (within (log_jacobian_leaves_series d)) (λ _. Ok p)
-
-unfoldable pub within_right_minus_jacobian : List Float → List Float → Float → Result (Element × Element) Refusal
-within_right_minus_jacobian left right tolerance = and_then (Generic.elements group left right tolerance) (λ p. within_jacobian (between group p.1 p.0) p)
-
-unfoldable pub within_left_minus_jacobian : List Float → List Float → Float → Result (Element × Element) Refusal
-within_left_minus_jacobian left right tolerance = and_then (Generic.elements group left right tolerance) (λ p. within_jacobian (left_between group p.0 p.1) p)
-
+-- ---- of minus, at its answer: refused where minus is
 unfoldable pub right_minus_jacobian_self : List Float → List Float → Float → Result Mat3 Refusal
-right_minus_jacobian_self left right tolerance = and_then (within_right_minus_jacobian left right tolerance) (λ p. answered matrix_values (Jacobians.right_minus_jacobian_self p.0 p.1))
+right_minus_jacobian_self left right tolerance =
+    and_then (Generic.within_right_minus group tangents left right tolerance) (λ t. answered matrix_values (Tangents.right_jacobian_inv t))
 
 unfoldable pub right_minus_jacobian_other : List Float → List Float → Float → Result Mat3 Refusal
-right_minus_jacobian_other left right tolerance = and_then (within_right_minus_jacobian left right tolerance) (λ p. answered matrix_values (Jacobians.right_minus_jacobian_other p.0 p.1))
+right_minus_jacobian_other left right tolerance =
+    and_then (Generic.within_right_minus group tangents left right tolerance) (λ t. answered matrix_values (Jacobians.right_minus_jacobian_other t))
 
 unfoldable pub left_minus_jacobian_self : List Float → List Float → Float → Result Mat3 Refusal
-left_minus_jacobian_self left right tolerance = and_then (within_left_minus_jacobian left right tolerance) (λ p. answered matrix_values (Jacobians.left_minus_jacobian_self p.0 p.1))
+left_minus_jacobian_self left right tolerance =
+    and_then (Generic.within_left_minus group tangents left right tolerance) (λ p. answered matrix_values (Jacobians.left_minus_jacobian_self p.0 p.1))
 
 unfoldable pub left_minus_jacobian_other : List Float → List Float → Float → Result Mat3 Refusal
-left_minus_jacobian_other left right tolerance = and_then (within_left_minus_jacobian left right tolerance) (λ p. answered matrix_values (Jacobians.left_minus_jacobian_other p.0 p.1))
+left_minus_jacobian_other left right tolerance =
+    and_then (Generic.within_left_minus group tangents left right tolerance) (λ p. answered matrix_values (Jacobians.left_minus_jacobian_other p.0 p.1))
 
 -- ---- sine and cosine: a number that is not finite is refused, and then a magnitude above 4
 unfoldable pub check_angle : Float → Check

@@ -1,5 +1,5 @@
-// The calls on blocks that SO(3) alone has: a rotation of four values, and the Jacobians of log, exp, plus and minus; and sine and cosine, of a number.
-// Each refuses, or answers with the operation of `so3` or `trigonometry` of the same name.
+// The calls on blocks that SO(3) alone has: a rotation of four values, the half-angle, and the Jacobians of log, exp, plus and minus; and sine and
+// cosine, of a number. Each refuses, or answers with the operation of `so3` or `trigonometry` that it is named after.
 #![tactic(auto)]
 
 ghost use Rattle.std.specs.Prelude.{◌≡◌};
@@ -25,24 +25,25 @@ pub fn try_from_quaternion_wxyz(
     manifold::answered(Element::from_quaternion_wxyz(w, x, y, z))
 }
 
-// ---- Jacobians of log and exp: those of log and the inverse ones refuse 4 where a series is left, the others where exp does. These calls, as those
-// below, are alike but for the operation that each names; with the operation as a parameter the contract would be the caller's to state.
-
-// The rotation, if log's Jacobian stays in its series there.
-#[tactic(auto, unfolding(crate::specs::Calls::within_log_jacobian))]
-pub fn within_log_jacobian(block: &[f64], tolerance: f64) -> Result<Element, Refusal>
-    ensures { result ≡ Calls.within_log_jacobian block.now tolerance }
+// The half-angle of the unit quaternion that log reads. It is finite for every block that is not refused (crate `comes_back`).
+#[tactic(auto, unfolding(crate::specs::Calls::half_angle))]
+pub fn half_angle(block: &[f64], tolerance: f64) -> Result<f64, Refusal>
+    ensures { result ≡ Calls.half_angle block.now tolerance }
 {
     let a = Element::try_from_param_slice(block, tolerance)?;
-    manifold::within(a.log_jacobian_leaves_series())?;
-    Ok(a)
+    Ok(a.half_angle())
 }
 
+// ---- Jacobians of log and exp: they refuse 4 where log and exp do. These calls, as those below, are alike but for the operation that each names; with
+// the operation as a parameter the contract would be the caller's to state.
+
+// The inverse of the right Jacobian, at log's answer.
 #[tactic(auto, unfolding(crate::specs::Calls::log_jacobian))]
 pub fn log_jacobian(block: &[f64], tolerance: f64) -> Result<Mat3, Refusal>
     ensures { result ≡ Calls.log_jacobian block.now tolerance }
 {
-    manifold::answered(within_log_jacobian(block, tolerance)?.log_jacobian())
+    let t = manifold_blocks::within_log::<Element>(block, tolerance)?;
+    manifold::answered(t.right_jacobian_inv())
 }
 
 #[tactic(auto, unfolding(crate::specs::Calls::left_jacobian))]
@@ -66,28 +67,18 @@ pub fn exp_jacobian(tangent: &[f64]) -> Result<Mat3, Refusal>
     right_jacobian(tangent)
 }
 
-// The tangent, if an inverse Jacobian stays in its series there.
-#[tactic(auto, unfolding(crate::specs::Calls::within_series))]
-pub fn within_series(tangent: &[f64]) -> Result<Tangent, Refusal>
-    ensures { result ≡ Calls.within_series tangent.now }
-{
-    let t = Tangent::try_from_slice(tangent)?;
-    manifold::within(t.leaves_series())?;
-    Ok(t)
-}
-
 #[tactic(auto, unfolding(crate::specs::Calls::left_jacobian_inv))]
 pub fn left_jacobian_inv(tangent: &[f64]) -> Result<Mat3, Refusal>
     ensures { result ≡ Calls.left_jacobian_inv tangent.now }
 {
-    manifold::answered(within_series(tangent)?.left_jacobian_inv())
+    manifold::answered(manifold_blocks::within_exp::<Tangent>(tangent)?.left_jacobian_inv())
 }
 
 #[tactic(auto, unfolding(crate::specs::Calls::right_jacobian_inv))]
 pub fn right_jacobian_inv(tangent: &[f64]) -> Result<Mat3, Refusal>
     ensures { result ≡ Calls.right_jacobian_inv tangent.now }
 {
-    manifold::answered(within_series(tangent)?.right_jacobian_inv())
+    manifold::answered(manifold_blocks::within_exp::<Tangent>(tangent)?.right_jacobian_inv())
 }
 
 // ---- Of plus with respect to its tangent
@@ -127,21 +118,7 @@ pub fn left_plus_jacobian_tangent(
     manifold::answered(a.left_plus_jacobian_tangent(t))
 }
 
-// ---- Of minus: they refuse 4 where the Jacobian of the difference's log leaves a series
-
-// The elements, if the Jacobian of the log of their difference stays in its series; on the right, and on the left.
-#[tactic(auto, unfolding(crate::specs::Calls::within_right_minus_jacobian))]
-pub fn within_right_minus_jacobian(
-    left: &[f64],
-    right: &[f64],
-    tolerance: f64,
-) -> Result<(Element, Element), Refusal>
-    ensures { result ≡ Calls.within_right_minus_jacobian left.now right.now tolerance }
-{
-    let (a, b) = manifold_blocks::elements::<Element>(left, right, tolerance)?;
-    manifold::within(b.between(a).log_jacobian_leaves_series())?;
-    Ok((a, b))
-}
+// ---- Of minus, at its answer: they refuse 4 where minus does
 
 #[tactic(auto, unfolding(crate::specs::Calls::right_minus_jacobian_self))]
 pub fn right_minus_jacobian_self(
@@ -151,8 +128,8 @@ pub fn right_minus_jacobian_self(
 ) -> Result<Mat3, Refusal>
     ensures { result ≡ Calls.right_minus_jacobian_self left.now right.now tolerance }
 {
-    let (a, b) = within_right_minus_jacobian(left, right, tolerance)?;
-    manifold::answered(a.right_minus_jacobian_self(b))
+    let t = manifold_blocks::within_right_minus::<Element>(left, right, tolerance)?;
+    manifold::answered(t.right_jacobian_inv())
 }
 
 // Minus is the one on the right.
@@ -170,27 +147,14 @@ pub fn right_minus_jacobian_other(
 ) -> Result<Mat3, Refusal>
     ensures { result ≡ Calls.right_minus_jacobian_other left.now right.now tolerance }
 {
-    let (a, b) = within_right_minus_jacobian(left, right, tolerance)?;
-    manifold::answered(a.right_minus_jacobian_other(b))
+    let t = manifold_blocks::within_right_minus::<Element>(left, right, tolerance)?;
+    manifold::answered(t.right_minus_jacobian_other())
 }
 
 pub fn minus_jacobian_other(left: &[f64], right: &[f64], tolerance: f64) -> Result<Mat3, Refusal>
     ensures { result ≡ Calls.right_minus_jacobian_other left.now right.now tolerance }
 {
     right_minus_jacobian_other(left, right, tolerance)
-}
-
-#[tactic(auto, unfolding(crate::specs::Calls::within_left_minus_jacobian))]
-pub fn within_left_minus_jacobian(
-    left: &[f64],
-    right: &[f64],
-    tolerance: f64,
-) -> Result<(Element, Element), Refusal>
-    ensures { result ≡ Calls.within_left_minus_jacobian left.now right.now tolerance }
-{
-    let (a, b) = manifold_blocks::elements::<Element>(left, right, tolerance)?;
-    manifold::within(a.left_between(b).log_jacobian_leaves_series())?;
-    Ok((a, b))
 }
 
 #[tactic(auto, unfolding(crate::specs::Calls::left_minus_jacobian_self))]
@@ -201,8 +165,8 @@ pub fn left_minus_jacobian_self(
 ) -> Result<Mat3, Refusal>
     ensures { result ≡ Calls.left_minus_jacobian_self left.now right.now tolerance }
 {
-    let (a, b) = within_left_minus_jacobian(left, right, tolerance)?;
-    manifold::answered(a.left_minus_jacobian_self(b))
+    let (t, b) = manifold_blocks::within_left_minus::<Element>(left, right, tolerance)?;
+    manifold::answered(t.left_minus_jacobian_self(b))
 }
 
 #[tactic(auto, unfolding(crate::specs::Calls::left_minus_jacobian_other))]
@@ -213,8 +177,8 @@ pub fn left_minus_jacobian_other(
 ) -> Result<Mat3, Refusal>
     ensures { result ≡ Calls.left_minus_jacobian_other left.now right.now tolerance }
 {
-    let (a, b) = within_left_minus_jacobian(left, right, tolerance)?;
-    manifold::answered(a.left_minus_jacobian_other(b))
+    let (t, b) = manifold_blocks::within_left_minus::<Element>(left, right, tolerance)?;
+    manifold::answered(t.left_minus_jacobian_other(b))
 }
 
 // ---- Sine and cosine, of a number that is finite and of magnitude at most 4

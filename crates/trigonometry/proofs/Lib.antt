@@ -1,6 +1,7 @@
 pub mod Last
 pub mod HornerError
 pub mod Terms
+pub mod Sign
 pub mod Polynomials
 pub mod Totals
 pub mod Taylor

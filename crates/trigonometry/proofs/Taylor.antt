@@ -4,6 +4,7 @@ use mathlib.Core.Bool.{false}
 use Prim.Native.Nat.{ℕ, ◌+◌, ◌*◌, ◌^◌, ◌≤◌, ◌<◌}
 use native.Mathlib.Nat.{le_trans, le_of_eq, mul-le-mul_left, le_of_mul-le-mul_right, pow-suc}
 use native.Mathlib.Omega.{arith}
+use lib.Dec.{lit<}
 use lib.IntN.{ℤ, pos, nat_abs, ◌-ℤ◌, ◌*ℤ◌}
 use lib.Ieee.{Float}
 use Rattle.float.specs.Exact.{count, negative, exact}
@@ -28,12 +29,16 @@ far x y c h i = omega arith
 units : (u g o G : ℕ) → g ≡ 2 ^ 53 * u → o ≡ 2 ^ 100 * g → 2 ^ 45 * (2 ^ 108 * (u * G)) ≡ o * G
 units u g o G i j = rw (j, i) (omega arith)
 
-denominator-is : (d : ℕ) → denominator d ≡ d * (d ^ 30 * factorial 31)
+pub denominator-is : (d : ℕ) → denominator d ≡ d * (d ^ 30 * factorial 31)
 unfolding denominator
 denominator-is d = ap (λ (x : ℕ). x * factorial 31) (pow-suc d 30) ∙ go (d ^ 30) d (factorial 31)
   where
     go : (A d F : ℕ) → A * d * F ≡ d * (A * F)
     go A d F = omega arith
+
+pub denominator-pos : 0 < denominator one
+unfolding denominator factorial one
+denominator-pos = lit< tt
 
 pub close-near : {f : ℕ → ℤ → ℤ} {P M m : ℕ} {x r : Float} → Difference (f one (exact x)) P M → Close (denominator one) P M (2 ^ 108) m r → Near f x r
 unfolding Within

@@ -16,7 +16,7 @@ unfoldable pub horner : Float → Float → List Float → Float
 horner w last [] = last
 horner w last (c ∷ cs) = add binary64 c (mul binary64 w (horner w last cs))
 
-abbrev floats : List ℕ → List Float
+abbrev pub floats : List ℕ → List Float
 floats patterns = map (of_bits binary64) patterns
 
 -- sine's coefficients that are subtracted, the nearest to 1/3!, 1/7!, 1/11! .. 1/27!, and to 1/31!

@@ -6,7 +6,7 @@ ghost use Rattle.std.specs.Prelude.{◌≡◌};
 ghost use Rattle.trigonometry.specs.Sines as Sines;
 
 // c[0] + w (c[1] + w (.. + w last)), by Horner's scheme.
-fn horner(w: f64, last: f64, c: &[f64]) -> f64
+pub fn horner(w: f64, last: f64, c: &[f64]) -> f64
     ensures { result ≡ Sines.horner w last c.now }
 {
     let mut sum = last;
@@ -16,9 +16,9 @@ fn horner(w: f64, last: f64, c: &[f64]) -> f64
     sum
 }
 
-// Of a number that is not below zero.
+// Of a number that is not below zero. This and the next function are public for `half_angle`, whose numbers are not.
 #[tactic(auto, unfolding(crate::specs::Sines::sine_of))]
-fn sine_of(y: f64) -> f64
+pub fn sine_of(y: f64) -> f64
     ensures { result ≡ Sines.sine_of y }
 {
     let z = y * y;
@@ -52,7 +52,7 @@ fn sine_of(y: f64) -> f64
 }
 
 #[tactic(auto, unfolding(crate::specs::Sines::cosine_of))]
-fn cosine_of(y: f64) -> f64
+pub fn cosine_of(y: f64) -> f64
     ensures { result ≡ Sines.cosine_of y }
 {
     let z = y * y;

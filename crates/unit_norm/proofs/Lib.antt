@@ -4,4 +4,5 @@ pub mod Unit
 pub mod Product
 pub mod Accepted
 pub mod Results
+pub mod HalfAngle
 pub mod Worked

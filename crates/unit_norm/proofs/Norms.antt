@@ -15,6 +15,7 @@ use Rattle.rounding.specs.Number.{Number, one}
 use Rattle.rounding.specs.Error.{Within}
 use Rattle.rounding.proofs.Laws.{exact-size, mul-sign, mul-error, add-sign, add-error-plus, add-operands, unlike-self}
 use Rattle.law.specs.Arithmetic.{Arithmetic}
+use Rattle.law.specs.Vector as Vector
 use Rattle.law.specs.Quaternion as Quaternion
 use Rattle.law.specs.Quaternion.{Quaternion}
 use Rattle.law.specs.Rounded.{rounded}
@@ -22,7 +23,7 @@ use Rattle.law.specs.Exact as Exact
 use Rattle.law.proofs.Model.{exact_integers}
 use Rattle.law.proofs.Rotation.{norm_squared-mul}
 use Rattle.unit_norm.specs.SquaredNorm.{squared_norm}
-use Rattle.unit_norm.proofs.Sums.{slack, abs-mul, Near, sizes-near, product, in-turn, in-pairs}
+use Rattle.unit_norm.proofs.Sums.{slack, abs-mul, Near, sizes-near, product, looser, first-three, in-turn, in-pairs}
 
 -- ---- over integers: the formulas of `law`, exactly
 abbrev pub o : Arithmetic ℤ
@@ -49,6 +50,13 @@ in-pairs-is q = rw (square-is q.w, square-is q.x, square-is q.y, square-is q.z) 
 
 in-turn-is : (q : Quaternion ℤ) → nat_abs (q.w *ℤ q.w +ℤ q.x *ℤ q.x +ℤ q.y *ℤ q.y +ℤ q.z *ℤ q.z) ≡ squares q
 in-turn-is q = rw (square-is q.w, square-is q.x, square-is q.y, square-is q.z) refl
+
+-- and of the vector part alone
+abbrev pub vector_squares : Quaternion ℤ → ℕ
+vector_squares q = square (nat_abs q.x) + square (nat_abs q.y) + square (nat_abs q.z)
+
+vector-is : (q : Quaternion ℤ) → nat_abs (q.x *ℤ q.x +ℤ q.y *ℤ q.y +ℤ q.z *ℤ q.z) ≡ vector_squares q
+vector-is q = rw (square-is q.x, square-is q.y, square-is q.z) refl
 
 -- the squared norm of a product is the product of the squared norms
 pub squares-mul : (p q : Quaternion ℤ) → squares (Quaternion.mul o p q) ≡ squares p * squares q
@@ -139,6 +147,13 @@ module _ {q : Quaternion Float} (Q : Numbers q) where
       let wxy = finite-add wx (finite-more (lit≤ tt) (finite-square Q.y b.1)) a.0 in
       finite-add wxy (finite-more (lit≤ tt) (finite-square Q.z a.1)) t
 
+  vector-sign : T (finite (sq q.x ⊕ sq q.y ⊕ sq q.z)) → negative (sq q.x ⊕ sq q.y ⊕ sq q.z) ≡ false
+  vector-sign t =
+      let a = add-operands (sq q.x ⊕ sq q.y) (sq q.z) t in
+      let b = add-operands (sq q.x) (sq q.y) a.0 in
+      let xy = finite-add (finite-square Q.x b.0) (finite-square Q.y b.1) a.0 in
+      (finite-add xy (finite-more (lit≤ tt) (finite-square Q.z a.1)) t).sign
+
   module _ (h : squared_norm q ≤ 2 ^ 7 * (one * one)) where
     bounds : (count q.w * count q.w ≤ 2 ^ 7 * (one * one)) × (count q.x * count q.x ≤ 2 ^ 7 * (one * one)) × (count q.y * count q.y ≤ 2 ^ 7 * (one * one)) × (count q.z * count q.z ≤ 2 ^ 7 * (one * one))
     unfolding squared_norm
@@ -159,14 +174,21 @@ module _ {q : Quaternion Float} (Q : Numbers q) where
     Z : Near (exact q.z *ℤ exact q.z) (count q.z * count q.z) 1 1 (sq q.z)
     Z = product Q.z Q.z bounds.3
 
-    -- the exact sum of a rounded one is the squared norm
-    with-size : {w : ℤ} {b : ℕ} {g : Float} → Near w b 4 7 g → nat_abs w ≡ squares (exactly q) → b ≡ squared_norm q → negative g ≡ false → SumOfSquares (squared_norm q) g
-    with-size {w} {b} {g} N e f s = record { number = N.number; sign = s; near = rw (← f) (rw (e, exactly-squares q, ← f) at (sizes-near N)) }
+    -- the exact sum of a rounded one
+    with-size : {w : ℤ} {b s : ℕ} {g : Float} → Near w b 4 7 g → nat_abs w ≡ s → b ≡ s → negative g ≡ false → SumOfSquares s g
+    with-size {w} {b} {s} {g} N e f n = record { number = N.number; sign = n; near = rw (← f) (rw (e, ← f) at (sizes-near N)) }
 
     pub norm_squared-near : SumOfSquares (squared_norm q) (Quaternion.norm_squared rounded q)
     unfolding squared_norm Quaternion.norm_squared
-    norm_squared-near = let N = in-pairs X Z Y W (omega (arith, h)) in with-size N (in-pairs-is (exactly q)) (omega arith) (finite-pairs N.number.is_finite).sign
+    norm_squared-near = let N = in-pairs X Z Y W (omega (arith, h)) in with-size N (in-pairs-is (exactly q) ∙ exactly-squares q) (omega arith) (finite-pairs N.number.is_finite).sign
 
     pub check-near : SumOfSquares (squared_norm q) (sq q.w ⊕ sq q.x ⊕ sq q.y ⊕ sq q.z)
     unfolding squared_norm
-    check-near = let N = in-turn W X Y Z h in with-size N (in-turn-is (exactly q)) refl (finite-turn N.number.is_finite).sign
+    check-near = let N = in-turn W X Y Z h in with-size N (in-turn-is (exactly q) ∙ exactly-squares q) refl (finite-turn N.number.is_finite).sign
+
+    -- of the vector part
+    pub vector-near : SumOfSquares (vector_squares (exactly q)) (Vector.norm_squared rounded (Quaternion.vector rounded q))
+    unfolding squared_norm Vector.norm_squared Quaternion.vector
+    vector-near =
+        let N = looser (lit≤ tt) (lit≤ tt) (first-three X Y Z W (omega (arith, h))) in
+        with-size N (vector-is (exactly q)) (rw (exact-size q.x, exact-size q.y, exact-size q.z) refl) (vector-sign N.number.is_finite)

@@ -197,12 +197,15 @@ added {w} {v} {b} {c} {k} {m} {n} {y} {z} Y Z h =
     scaled : (s x t : ℤ) → 2 ^ 53 * nat_abs (s -ℤ (x +ℤ t)) ≤ nat_abs (x +ℤ t) → 2 ^ 53 * nat_abs ((s -ℤ (x +ℤ t)) *ℤ pos one) ≤ nat_abs x * one + nat_abs t * one
     scaled s x t h = rw (abs-mul (s -ℤ (x +ℤ t)) (pos one)) (times (nat_abs (s -ℤ (x +ℤ t))) (nat_abs x) (nat_abs t) one (le_trans h (abs-add x t)))
 
--- ---- four products, added in turn or in two pairs
-deeper : {w : ℤ} {b k l m : ℕ} {z : Float} → k ≤ l → Near w b k m z → Near w b l m z
-deeper {w} {b} {k} {l} {m} {z} h Z = record { number = Z.number; size = Z.size; error = le_trans Z.error (more (k * b) (l * b) (m * slack) (mul-le-mul_right b h)) }
+-- ---- four products, added in turn or in two pairs, and the first three of them
+pub looser : {w : ℤ} {b k l m n : ℕ} {z : Float} → k ≤ l → m ≤ n → Near w b k m z → Near w b l n z
+looser {w} {b} {k} {l} {m} {n} {z} h i Z = record { number = Z.number; size = Z.size; error = le_trans Z.error (both (k * b) (l * b) (m * slack) (n * slack) (mul-le-mul_right b h) (mul-le-mul_right slack i)) }
   where
-    more : (p q r : ℕ) → p ≤ q → p + r ≤ q + r
-    more p q r h = omega arith
+    both : (p q r s : ℕ) → p ≤ q → r ≤ s → p + r ≤ q + s
+    both p q r s h i = omega arith
+
+deeper : {w : ℤ} {b k l m : ℕ} {z : Float} → k ≤ l → Near w b k m z → Near w b l m z
+deeper {m = m} h Z = looser h (le_refl m) Z
 
 module _ {w₀ w₁ w₂ w₃ : ℤ} {b₀ b₁ b₂ b₃ : ℕ} {f₀ f₁ f₂ f₃ : Float} (T₀ : Near w₀ b₀ 1 1 f₀) (T₁ : Near w₁ b₁ 1 1 f₁) (T₂ : Near w₂ b₂ 1 1 f₂) (T₃ : Near w₃ b₃ 1 1 f₃)
     (h : b₀ + b₁ + b₂ + b₃ ≤ 2 ^ 7 * (one * one)) where
@@ -213,11 +216,13 @@ module _ {w₀ w₁ w₂ w₃ : ℤ} {b₀ b₁ b₂ b₃ : ℕ} {f₀ f₁ f₂
   part : (b k m : ℕ) → b ≤ b₀ + b₁ + b₂ + b₃ → T (leb k 4) → T (leb m 16) → Bounded b k m
   part b k m l p q = record { size = le_trans l h; depth = leb→le k 4 p; operations = leb→le m 16 q }
 
-  pub in-turn : Near (w₀ +ℤ w₁ +ℤ w₂ +ℤ w₃) (b₀ + b₁ + b₂ + b₃) 4 7 (f₀ ⊕ f₁ ⊕ f₂ ⊕ f₃)
-  in-turn =
+  pub first-three : Near (w₀ +ℤ w₁ +ℤ w₂) (b₀ + b₁ + b₂) 3 5 (f₀ ⊕ f₁ ⊕ f₂)
+  first-three =
       let two = added T₀ T₁ (part (b₀ + b₁) 1 2 (omega arith) tt tt) in
-      let three = added two (deeper (lit≤ tt) T₂) (part (b₀ + b₁ + b₂) 2 4 (omega arith) tt tt) in
-      added three (deeper (lit≤ tt) T₃) (part (b₀ + b₁ + b₂ + b₃) 3 6 (le_refl _) tt tt)
+      added two (deeper (lit≤ tt) T₂) (part (b₀ + b₁ + b₂) 2 4 (omega arith) tt tt)
+
+  pub in-turn : Near (w₀ +ℤ w₁ +ℤ w₂ +ℤ w₃) (b₀ + b₁ + b₂ + b₃) 4 7 (f₀ ⊕ f₁ ⊕ f₂ ⊕ f₃)
+  in-turn = added first-three (deeper (lit≤ tt) T₃) (part (b₀ + b₁ + b₂ + b₃) 3 6 (le_refl _) tt tt)
 
   pub in-pairs : Near ((w₀ +ℤ w₁) +ℤ (w₂ +ℤ w₃)) ((b₀ + b₁) + (b₂ + b₃)) 4 7 ((f₀ ⊕ f₁) ⊕ (f₂ ⊕ f₃))
   in-pairs =

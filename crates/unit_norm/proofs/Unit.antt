@@ -1,16 +1,18 @@
 -- A quaternion whose squared norm is within 1 / 32 of 1, divided by its computed norm: the squared norm is then within 28 * 2 ^ -53 of 1. Assumes nothing.
 use Prim.Native.Nat.{ℕ, zero, suc, ◌+◌, ◌*◌, ◌^◌, ◌≤◌, ◌<◌}
-use mathlib.Core.Path.{◌≡◌, refl, ap, subst}
-use native.Mathlib.Nat.{le_trans, le_of_eq, lt_irrefl, zero-lt-suc, mul-pos, mul-mul-mul_comm, mul-le-mul, mul-le-mul_right, mul-le-mul_left, le_of_mul-le-mul_right}
+use mathlib.Core.Path.{◌≡◌, refl, sym, ap, ◌∙◌, subst}
+use mathlib.Core.Bool.{false}
+use mathlib.Core.Logic.{inl, inr}
+use native.Mathlib.Nat.{eq-zero-or-pos, le_trans, le_of_eq, zero-lt-suc, mul-pos, mul-mul-mul_comm, mul-le-mul, mul-le-mul_right, mul-le-mul_left, le_of_mul-le-mul_right}
 use native.Mathlib.Omega.{arith}
-use lib.Dec.{lit<, lit≤}
+use lib.Dec.{lit≤}
 use lib.Ieee.{Float, binary64, div}
 use Rattle.whole_roots.specs.Roots.{square}
-use Rattle.float.specs.Exact.{count}
+use Rattle.float.specs.Exact.{count, negative}
 use Rattle.float.specs.Root.{square_root}
 use Rattle.rounding.specs.Number.{Number, one}
 use Rattle.rounding.specs.Error.{Within}
-use Rattle.rounding.proofs.Laws.{one-pos, one-limit, div-number, div-error, sqrt-root, root-squared}
+use Rattle.rounding.proofs.Laws.{one-pos, one-limit, div-number, div-error, sqrt-root, root-squared, root-zero}
 use Rattle.checks.proofs.NearOne.{le-of-square}
 use Rattle.law.specs.Quaternion as Quaternion
 use Rattle.law.specs.Quaternion.{Quaternion}
@@ -25,9 +27,10 @@ pub record RoughlyOne (s : ℕ) : Type 0 where
   pub low : 31 * (one * one) ≤ 32 * s
 
 -- ---- the root of the rounded sum: n is its square, v the sum
-record Norm (s : ℕ) (z : Float) : Type 0 where
-  number : Number z
-  near : Within (count z * count z) s (9 * tiny)
+pub record Norm (s : ℕ) (z : Float) : Type 0 where
+  pub number : Number z
+  pub sign : negative z ≡ false
+  pub near : Within (count z * count z) s (9 * tiny)
 
 root-over : (n v s t : ℕ) → 2 ^ 53 * n ≤ 2 ^ 53 * v + 3 * n → 2 ^ 53 * v ≤ 2 ^ 53 * s + (4 * s + 7 * (2 ^ 10 * t)) → 32 * s ≤ 33 * (2 ^ 53 * t) → n ≤ s + 9 * t
 root-over n v s t h k l = omega arith
@@ -35,25 +38,27 @@ root-over n v s t h k l = omega arith
 root-under : (n v s t : ℕ) → 2 ^ 53 * v ≤ 2 ^ 53 * n + 3 * n → 2 ^ 53 * s ≤ 2 ^ 53 * v + (4 * s + 7 * (2 ^ 10 * t)) → n ≤ s + 9 * t → 32 * s ≤ 33 * (2 ^ 53 * t) → s ≤ n + 9 * t
 root-under n v s t h k e l = omega arith
 
-some : (g o s t : ℕ) → 2 ^ 53 * s ≤ 2 ^ 53 * (g * o) + (4 * s + 7 * (2 ^ 10 * t)) → 31 * (2 ^ 53 * t) ≤ 32 * s → 0 < t → 0 < g
-some zero o s t h k P = absurd (lt_irrefl 0 (none s t (subst (λ (n : ℕ). 2 ^ 53 * s ≤ 2 ^ 53 * n + (4 * s + 7 * (2 ^ 10 * t))) (native.Mathlib.Nat.zero-mul o) h) k P))
-  where
-    none : (s t : ℕ) → 2 ^ 53 * s ≤ 2 ^ 53 * 0 + (4 * s + 7 * (2 ^ 10 * t)) → 31 * (2 ^ 53 * t) ≤ 32 * s → 0 < t → 0 < 0
-    none s t h k P = omega arith
-some (suc g) o s t h k P = zero-lt-suc g
+-- that of zero is zero
+zero-over : (n s t : ℕ) → n ≡ 0 → square n ≤ s + 9 * t
+zero-over n s t e = rw e (omega arith)
 
-tiny-pos : 0 < tiny
-unfolding tiny
-tiny-pos = lit< tt
+zero-under : (g o n s t : ℕ) → g ≡ 0 → 2 ^ 53 * s ≤ 2 ^ 53 * (g * o) + (4 * s + 7 * (2 ^ 10 * t)) → s ≤ n + 9 * t
+zero-under g o n s t e h = let k = subst (λ (z : ℕ). 2 ^ 53 * s ≤ 2 ^ 53 * (z * o) + (4 * s + 7 * (2 ^ 10 * t))) e h in omega arith
 
-normed : {s : ℕ} {g : Float} → SumOfSquares s g → RoughlyOne s → Norm s (square_root g)
+pub normed : {s : ℕ} {g : Float} → SumOfSquares s g → 32 * s ≤ 33 * (one * one) → Norm s (square_root g)
 unfolding slack
-normed {s} {g} G h =
-    let high = subst (λ (n : ℕ). 32 * s ≤ 33 * n) tiny-one h.high in
-    let R = sqrt-root G.number G.sign (some (count g) one s tiny G.near.under (subst (λ (n : ℕ). 31 * n ≤ 32 * s) tiny-one h.low) tiny-pos) in
-    let w = root-squared R.error in
-    let o = root-over (square (count (square_root g))) (count g * one) s tiny w.over G.near.over high in
-    record { number = R.number; near = record { over = o; under = root-under (square (count (square_root g))) (count g * one) s tiny w.under G.near.under o high } }
+normed {s} {g} G h = elim (eq-zero-or-pos (count g)) [
+  | inl e ↦
+      let z = root-zero g G.number e in
+      let n = count (square_root g) in
+      record { number = subst Number (sym z) G.number; sign = ap negative z ∙ G.sign; near = record { over = zero-over n s tiny (ap count z ∙ e); under = zero-under (count g) one (square n) s tiny e G.near.under } }
+  | inr p ↦
+      let high = subst (λ (n : ℕ). 32 * s ≤ 33 * n) tiny-one h in
+      let R = sqrt-root G.number G.sign p in
+      let w = root-squared R.error in
+      let o = root-over (square (count (square_root g))) (count g * one) s tiny w.over G.near.over high in
+      record { number = R.number; sign = R.sign; near = record { over = o; under = root-under (square (count (square_root g))) (count g * one) s tiny w.under G.near.under o high } }
+]
 
 -- ---- one value: u is the quotient times the norm, v the value times one; they are at most 2 * tiny apart
 quotient-over : (u v n o t : ℕ) → 2 ^ 53 * u ≤ 2 ^ 53 * v + (v + 2 ^ 52 * n) → 32 * v ≤ 33 * (2 ^ 53 * t) → n ≤ 2 * o → 2 ^ 100 * o ≤ t → u ≤ v + 2 * t
@@ -81,13 +86,13 @@ norm-over n s q t h l m = omega arith
 norm-under : (n s q t : ℕ) → s ≤ n + 9 * t → 31 * q ≤ 32 * s → 480 * t ≤ q → 30 * q ≤ 32 * n
 norm-under n s q t h l m = omega arith
 
-module _ {n : Float} {s : ℕ} (N : Norm s n) (h : RoughlyOne s) where
-  high : count n ≤ 2 * one
-  high = le-of-square (count n) (2 * one) (le_trans (norm-over (square (count n)) s (one * one) tiny N.near.over h.high (tiny-few 96 (lit≤ tt))) (le_of_eq (four one)))
-    where
-      four : (o : ℕ) → 4 * (o * o) ≡ square (2 * o)
-      four o = omega arith
+pub at-most-two : {s : ℕ} {n : Float} → Norm s n → 32 * s ≤ 33 * (one * one) → count n ≤ 2 * one
+at-most-two {s} {n} N h = le-of-square (count n) (2 * one) (le_trans (norm-over (square (count n)) s (one * one) tiny N.near.over h (tiny-few 96 (lit≤ tt))) (le_of_eq (four one)))
+  where
+    four : (o : ℕ) → 4 * (o * o) ≡ square (2 * o)
+    four o = omega arith
 
+module _ {n : Float} {s : ℕ} (N : Norm s n) (h : RoughlyOne s) where
   low : 30 * (one * one) ≤ 32 * square (count n)
   low = norm-under (square (count n)) s (one * one) tiny N.near.under h.low (tiny-few 480 (lit≤ tt))
 
@@ -108,8 +113,8 @@ module _ {n : Float} {s : ℕ} (N : Norm s n) (h : RoughlyOne s) where
       let v = count x * one in
       let square-size : 32 * v ≤ 33 * (one * one) = scaled (count x) one size in
       let tiny-size : 32 * v ≤ 33 * (2 ^ 53 * tiny) = subst (λ (z : ℕ). 32 * v ≤ 33 * z) tiny-one square-size in
-      let o = quotient-over u v (count n) one tiny w.over tiny-size high one-tiny in
-      let r = quotient-under u v (count n) one tiny w.under tiny-size high one-tiny in
+      let o = quotient-over u v (count n) one tiny w.over tiny-size (at-most-two N h.high) one-tiny in
+      let r = quotient-under u v (count n) one tiny w.under tiny-size (at-most-two N h.high) one-tiny in
       let f = tiny-few 96 (lit≤ tt) in
       record {
         number = Y;
@@ -135,6 +140,9 @@ sum-under : (a b c d w x y z n q t s : ℕ) → 8 * (w * q) ≤ 8 * (a * n) + 34
     → s ≡ w + x + y + z → n ≤ s + 9 * t → 30 * q ≤ 32 * n → q * n ≤ (a + b + c + d + 28 * t) * n
 sum-under a b c d w x y z n q t s A B C D e h l = omega (arith, ap (λ (v : ℕ). v * q) e, mul-le-mul_right q h, mul-le-mul_left t l)
 
+pub coarse : (s q : ℕ) → 32 * s ≤ 33 * q → s ≤ 2 ^ 7 * q
+coarse s q h = omega arith
+
 -- its values are numbers, and its squared norm is within k * 2 ^ -53 of 1
 pub record Unit (k : ℕ) (q : Quaternion Float) : Type 0 where
   pub numbers : Numbers q
@@ -147,7 +155,7 @@ pub normalized : {q : Quaternion Float} → Numbers q → RoughlyOne (squared_no
 unfolding squared_norm Quaternion.normalize Quaternion.divide Quaternion.norm
 normalized {q} Q h =
     let n = square_root (Quaternion.norm_squared rounded q) in
-    let N = normed (norm_squared-near Q (coarse (squared_norm q) (one * one) h.high)) h in
+    let N = normed (norm_squared-near Q (coarse (squared_norm q) (one * one) h.high)) h.high in
     let l = each (square (count q.w)) (square (count q.x)) (square (count q.y)) (square (count q.z)) in
     let W = part N h Q.w l.0 in
     let X = part N h Q.x l.1 in
@@ -162,9 +170,6 @@ normalized {q} Q h =
         under = le_of_mul-le-mul_right (sum-under _ _ _ _ (square (count q.w)) (square (count q.x)) (square (count q.y)) (square (count q.z)) m (one * one) tiny _ W.near.under X.near.under Y.near.under Z.near.under refl N.near.over (low N h)) P;
       };
     }
-  where
-    coarse : (s q : ℕ) → 32 * s ≤ 33 * q → s ≤ 2 ^ 7 * q
-    coarse s q h = omega arith
 
 -- so it may be divided again
 pub roughly-one : {k s : ℕ} → k ≤ 2 ^ 10 → Within s (one * one) (k * tiny) → RoughlyOne s

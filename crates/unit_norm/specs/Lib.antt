@@ -1,1 +1,2 @@
 pub mod SquaredNorm
+pub mod HalfAngle

@@ -77,7 +77,7 @@ abbrev so3_exp : List Float → Result Rotation Refusal
 so3_exp = Generic.exp So3.tangents So3Elements.values
 
 abbrev so3_log : List Float → Float → Result RotationTangent Refusal
-so3_log = Generic.log So3.group So3Tangents.values
+so3_log = Generic.log So3.group So3.tangents So3Tangents.values
 
 abbrev so3_act : List Float → List Float → Float → Result Vec3 Refusal
 so3_act = Generic.act So3.group
@@ -89,7 +89,7 @@ abbrev sgal3_exp : List Float → Result Element Refusal
 sgal3_exp = Generic.exp SGal3.tangents Elements.coeffs
 
 abbrev sgal3_log : List Float → Float → Result Tangent Refusal
-sgal3_log = Generic.log SGal3.group Tangents.coeffs
+sgal3_log = Generic.log SGal3.group SGal3.tangents Tangents.coeffs
 
 abbrev sgal3_act : List Float → List Float → Float → Result Vec3 Refusal
 sgal3_act = Generic.act SGal3.group
@@ -205,8 +205,14 @@ bench_list =
     ∷ says (rotation (so3_exp (along_x 0x3ef0_0000_0000_0000))) (0 ∷ 0x3fef_ffff_fffc_0000 ∷ 0x3edf_ffff_fffe_aaab ∷ zero ∷ zero ∷ [])
     ∷ says (rotation (so3_exp (along_x three))) (0 ∷ 0x3fb2_1bd5_4fc5_f9a0 ∷ 0x3fef_eb7a_9b2c_6d8c ∷ zero ∷ zero ∷ [])
     ∷ says (rotation (so3_exp (along_x 0x4008_0000_0000_0001))) (4 ∷ [])
-    -- an inverse Jacobian refuses theta (2 ^ -16, 0, 0): 4
-    ∷ says (matrix (Rotations.left_jacobian_inv (along_x 0x3ef0_0000_0000_0000))) (4 ∷ zero ∷ zero ∷ zero ∷ zero ∷ zero ∷ zero ∷ zero ∷ zero ∷ zero ∷ [])
+    -- the inverse of the left Jacobian at theta (2 ^ -16, 0, 0), at (1, 0, 0) and at (3, 0, 0); the next number: 4, all +0
+    ∷ says (matrix (Rotations.left_jacobian_inv (along_x 0x3ef0_0000_0000_0000)))
+    (0 ∷ one ∷ zero ∷ zero ∷ zero ∷ 0x3fef_ffff_fffd_5555 ∷ 0x3ee0_0000_0000_0000 ∷ zero ∷ 0xbee0_0000_0000_0000 ∷ 0x3fef_ffff_fffd_5555 ∷ [])
+    ∷ says (matrix (Rotations.left_jacobian_inv (along_x one)))
+    (0 ∷ one ∷ zero ∷ zero ∷ zero ∷ 0x3fed_49ad_7e47_c0a3 ∷ half ∷ zero ∷ minus_half ∷ 0x3fed_49ad_7e47_c0a3 ∷ [])
+    ∷ says (matrix (Rotations.left_jacobian_inv (along_x three)))
+    (0 ∷ one ∷ zero ∷ zero ∷ zero ∷ 0x3fbb_3b36_7d9f_0610 ∷ 0x3ff8_0000_0000_0000 ∷ zero ∷ 0xbff8_0000_0000_0000 ∷ 0x3fbb_3b36_7d9f_0610 ∷ [])
+    ∷ says (matrix (Rotations.left_jacobian_inv (along_x 0x4008_0000_0000_0001))) (4 ∷ zero ∷ zero ∷ zero ∷ zero ∷ zero ∷ zero ∷ zero ∷ zero ∷ zero ∷ [])
     -- sine and cosine of 1; sine of -0; cosine of 4, and of the next number: 4; sine of an infinity: 2
     ∷ says (number (Rotations.sine (of_bits binary64 one))) (0 ∷ 0x3fea_ed54_8f09_0cee ∷ [])
     ∷ says (number (Rotations.cosine (of_bits binary64 one))) (0 ∷ 0x3fe1_4a28_0fb5_068b ∷ [])
@@ -214,10 +220,21 @@ bench_list =
     ∷ says (number (Rotations.cosine (of_bits binary64 four))) (0 ∷ 0xbfe4_eaa6_06db_24c0 ∷ [])
     ∷ says (number (Rotations.cosine (of_bits binary64 0x4010_0000_0000_0001))) (4 ∷ [])
     ∷ says (number (Rotations.sine (of_bits binary64 0x7ff0_0000_0000_0000))) (2 ∷ [])
-    -- log tests the half angle: (1, 2 ^ -17, 0, 0) is answered, and with w below zero by -2; its Jacobian tests the whole angle as well: 4, all +0
+    -- log of (1, 2 ^ -17, 0, 0) is 2 times its vector, and with w below zero -2 times: x² + y² + z² is within the limit of the series. The squared theta of
+    -- the answer is above it, so log's Jacobian is the closed form
     ∷ says (tangent (so3_log (near one) tolerance)) (0 ∷ 0x3eef_ffff_fffc_0000 ∷ zero ∷ zero ∷ [])
     ∷ says (tangent (so3_log (near minus_one) tolerance)) (0 ∷ 0xbeef_ffff_fffc_0000 ∷ minus_zero ∷ minus_zero ∷ [])
-    ∷ says (matrix (Rotations.log_jacobian (near one) tolerance)) (4 ∷ zero ∷ zero ∷ zero ∷ zero ∷ zero ∷ zero ∷ zero ∷ zero ∷ zero ∷ [])
+    ∷ says (matrix (Rotations.log_jacobian (near one) tolerance))
+    (0 ∷ one ∷ zero ∷ zero ∷ zero ∷ 0x3fef_ffff_fffd_5556 ∷ 0xbedf_ffff_fffc_0000 ∷ zero ∷ 0x3edf_ffff_fffc_0000 ∷ 0x3fef_ffff_fffd_5556 ∷ [])
+    -- log of a third of a turn about (1, 1, 1), by either quaternion; a half turn has the squared angle π ²: 4
+    ∷ says (tangent (so3_log (floats (half ∷ half ∷ half ∷ half ∷ [])) tolerance)) (0 ∷ 0x3ff3_58e1_a79e_d7e2 ∷ 0x3ff3_58e1_a79e_d7e2 ∷ 0x3ff3_58e1_a79e_d7e2 ∷ [])
+    ∷ says (tangent (so3_log (floats (minus_half ∷ minus_half ∷ minus_half ∷ minus_half ∷ [])) tolerance))
+    (0 ∷ 0x3ff3_58e1_a79e_d7e2 ∷ 0x3ff3_58e1_a79e_d7e2 ∷ 0x3ff3_58e1_a79e_d7e2 ∷ [])
+    ∷ says (tangent (so3_log (floats (zero ∷ one ∷ zero ∷ zero ∷ [])) tolerance)) (4 ∷ [])
+    -- the half-angle: of no turn +0, of a half turn the number above the nearest to π / 2, of norm 2: 3
+    ∷ says (number (Rotations.half_angle (floats (one ∷ zero ∷ zero ∷ zero ∷ [])) tolerance)) (0 ∷ zero ∷ [])
+    ∷ says (number (Rotations.half_angle (floats (minus_zero ∷ one ∷ zero ∷ zero ∷ [])) tolerance)) (0 ∷ 0x3ff9_21fb_5444_2d19 ∷ [])
+    ∷ says (number (Rotations.half_angle (floats (two ∷ zero ∷ zero ∷ zero ∷ [])) tolerance)) (3 ∷ two ∷ [])
     -- the left Jacobian, and the right one, its transpose
     ∷ says (matrix (Rotations.left_jacobian (along_x 0x3ee0_0000_0000_0000)))
     (0 ∷ one ∷ zero ∷ zero ∷ zero ∷ one ∷ 0xbed0_0000_0000_0000 ∷ zero ∷ 0x3ed0_0000_0000_0000 ∷ one ∷ [])
@@ -237,8 +254,10 @@ bench_list =
     ∷ says (answer (sgal3_exp (turn_x 0x3ef0_0000_0000_0000)))
     (0 ∷ zero ∷ zero ∷ zero ∷ 0x3fef_ffff_fffc_0000 ∷ 0x3edf_ffff_fffe_aaab ∷ zero ∷ zero ∷ zero ∷ zero ∷ zero ∷ zero ∷ [])
     ∷ says (answer (sgal3_exp (turn_x 0x4008_0000_0000_0001))) (4 ∷ [])
-    -- q = (1, 2 ^ -17, 0, 0): SGal3's log refuses 4, since it tests the squared theta of its own answer as well
-    ∷ says (galilean_tangent (sgal3_log (floats (zero ∷ zero ∷ zero ∷ one ∷ 0x3ee0_0000_0000_0000 ∷ zero ∷ zero ∷ zero ∷ zero ∷ zero ∷ zero ∷ [])) tolerance)) (4 ∷ [])
+    -- q = (1, 2 ^ -17, 0, 0): SGal3's log answers, with theta by the series, and nu and rho by the closed forms of the squared theta; of a half turn: 4
+    ∷ says (galilean_tangent (sgal3_log (turned (one ∷ 0x3ee0_0000_0000_0000 ∷ zero ∷ zero ∷ [])) tolerance))
+    (0 ∷ zero ∷ zero ∷ zero ∷ zero ∷ zero ∷ zero ∷ 0x3eef_ffff_fffc_0000 ∷ zero ∷ zero ∷ zero ∷ [])
+    ∷ says (galilean_tangent (sgal3_log (turned (zero ∷ one ∷ zero ∷ zero ∷ [])) tolerance)) (4 ∷ [])
     -- SGal3's is_valid of [0, 0, 0 | 2, 0, 0, 0 | 0, 0, 0 | 0] with 1e-6: yes; with tolerance 0: no
     ∷ says (valid (sgal3_is_valid (block two zero) tolerance)) (0 ∷ 1 ∷ [])
     ∷ says (valid (sgal3_is_valid (block two zero) (of_bits binary64 zero))) (0 ∷ 0 ∷ [])

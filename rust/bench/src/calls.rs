@@ -1,11 +1,14 @@
-//! exp, log and adjoint, in both its forms, on blocks of values, each through an entry that is there for timing alone: the library's and, behind functions of
-//! the same signature, the Rust source's own.
+//! exp, log of both groups and adjoint, in both its forms, on blocks of values, each through an entry that is there for timing alone: the library's and,
+//! behind functions of the same signature, the Rust source's own.
 //!
 //! The outcome is words: the refusal's number, two figures, how many values follow, their bits. docs/TESTING.md has the format.
 use apex::sgal3::{SGal3, SGal3Tangent};
-use apex::{LieGroup, Tangent, SMALL_ANGLE_THRESHOLD};
+use apex::so3::SO3;
+use apex::{LieGroup, Tangent};
 
 pub const OUTCOME: usize = 832;
+/// The largest squared angle of exp's tangent and of log's.
+const TURN_LIMIT: f64 = 9.0;
 
 /// A block, and the outcome's place: how many bytes were put there.
 pub type Entry = unsafe extern "C" fn(*const f64, usize, *mut [u8; OUTCOME]) -> usize;
@@ -13,6 +16,7 @@ pub type Entry = unsafe extern "C" fn(*const f64, usize, *mut [u8; OUTCOME]) -> 
 extern "C" {
     pub fn sgal3_exp(tangent: *const f64, len: usize, out: *mut [u8; OUTCOME]) -> usize;
     pub fn sgal3_log(block: *const f64, len: usize, out: *mut [u8; OUTCOME]) -> usize;
+    pub fn so3_log(block: *const f64, len: usize, out: *mut [u8; OUTCOME]) -> usize;
     pub fn sgal3_adjoint(block: *const f64, len: usize, out: *mut [u8; OUTCOME]) -> usize;
     /// Its place for an outcome is 344 bytes, less than is handed in here.
     pub fn sgal3_short_adjoint(block: *const f64, len: usize, out: *mut [u8; OUTCOME]) -> usize;
@@ -40,6 +44,18 @@ pub unsafe extern "C" fn source_log(
 ) -> usize {
     // SAFETY: the caller's promise.
     unsafe { log(std::slice::from_raw_parts(block, len), &mut *out) }
+}
+
+/// # Safety
+///
+/// As of `source_exp`.
+pub unsafe extern "C" fn source_so3_log(
+    block: *const f64,
+    len: usize,
+    out: *mut [u8; OUTCOME],
+) -> usize {
+    // SAFETY: the caller's promise.
+    unsafe { log_of_rotation(std::slice::from_raw_parts(block, len), &mut *out) }
 }
 
 /// # Safety
@@ -74,7 +90,7 @@ fn exp(block: &[f64], out: &mut [u8; OUTCOME]) -> usize {
         return refuse(2, out);
     }
     let tangent = SGal3Tangent::from_slice(block);
-    if tangent.theta().norm_squared() > 9.0 {
+    if tangent.theta().norm_squared() > TURN_LIMIT {
         return refuse(4, out);
     }
     finish(tangent.exp(None).as_param_slice(), out)
@@ -84,9 +100,19 @@ fn log(block: &[f64], out: &mut [u8; OUTCOME]) -> usize {
     if let Some(number) = refused_element(block) {
         return refuse(number, out);
     }
-    // The half angle's test is implied by that of the logarithm.
     let tangent = SGal3::from_param_slice(block).log(None);
-    if tangent.theta().norm_squared() > SMALL_ANGLE_THRESHOLD {
+    if tangent.theta().norm_squared() > TURN_LIMIT {
+        return refuse(4, out);
+    }
+    finish(tangent.as_slice(), out)
+}
+
+fn log_of_rotation(block: &[f64], out: &mut [u8; OUTCOME]) -> usize {
+    if let Some(number) = refused(block, 4, 0) {
+        return refuse(number, out);
+    }
+    let tangent = SO3::from_param_slice(block).log(None);
+    if tangent.coeffs().norm_squared() > TURN_LIMIT {
         return refuse(4, out);
     }
     finish(tangent.as_slice(), out)
@@ -116,10 +142,15 @@ fn short_adjoint(block: &[f64], out: &mut [u8; OUTCOME]) -> usize {
 }
 
 fn refused_element(block: &[f64]) -> Option<u64> {
-    if block.len() != 11 {
+    refused(block, 11, 3)
+}
+
+/// A block of this length whose quaternion stands at this place.
+fn refused(block: &[f64], length: usize, at: usize) -> Option<u64> {
+    if block.len() != length {
         return Some(1);
     }
-    let [w, x, y, z] = *block[3..].first_chunk()?;
+    let [w, x, y, z] = *block[at..].first_chunk()?;
     let norm = (w * w + x * x + y * y + z * z).sqrt();
     if !all_finite(block) || !norm.is_finite() {
         return Some(2);

@@ -1,7 +1,7 @@
 //! handset_bench: times the C entries of the static library beside the same calls in plain Rust, and prints a table.
 //!
 //! All are `extern "C"` functions that are not inlined. Rounds of the candidates alternate, and a figure is the median
-//! of its rounds. First all answers are compared: bit for bit, and within 2^-24 where the source takes sines and cosines.
+//! of its rounds. First all answers are compared: bit for bit, and within 2^-24 where the source takes sines, cosines or atan2.
 mod calls;
 mod plain;
 mod runs;
@@ -222,16 +222,16 @@ fn steps(quaternion: fn(&mut Random) -> [f64; 4]) -> Vec<Block> {
     (0..CHAIN_MOST).map(step).collect()
 }
 
-/// One of exp, log and adjoint, in both its forms: the library's entry, the source's, and how a block for it is made.
+/// One of exp, log of either group and adjoint, in both its forms: the library's entry, the source's, and how a block for it is made.
 struct Call {
     name: &'static str,
     entries: [calls::Entry; 2],
     block: fn(&mut Random) -> Vec<f64>,
-    /// Whether the source has the same bits: not where it takes sines and cosines.
+    /// Whether the source has the same bits: not where it takes sines, cosines or atan2.
     same_bits: bool,
 }
 
-const CALLS: [Call; 5] = [
+const CALLS: [Call; 8] = [
     Call {
         name: "exp, in its series",
         entries: [calls::sgal3_exp, calls::source_exp],
@@ -245,13 +245,34 @@ const CALLS: [Call; 5] = [
         same_bits: false,
     },
     Call {
-        name: "log",
+        name: "log, in its series",
         entries: [calls::sgal3_log, calls::source_log],
         block: |g| {
-            let q = [vec![1.0], values(g, 3, 2e-6)].concat();
-            [values(g, 3, 1.0), q, values(g, 3, 1.0), values(g, 1, 0.01)].concat()
+            let q = small_rotation(g);
+            element(g, q)
         },
         same_bits: true,
+    },
+    Call {
+        name: "log, of turns up to 3 rad",
+        entries: [calls::sgal3_log, calls::source_log],
+        block: |g| {
+            let q = rotation(g);
+            element(g, q)
+        },
+        same_bits: false,
+    },
+    Call {
+        name: "SO(3)'s log, in its series",
+        entries: [calls::so3_log, calls::source_so3_log],
+        block: small_rotation,
+        same_bits: true,
+    },
+    Call {
+        name: "SO(3)'s log, of turns up to 3 rad",
+        entries: [calls::so3_log, calls::source_so3_log],
+        block: rotation,
+        same_bits: false,
     },
     Call {
         name: "adjoint",
@@ -269,7 +290,26 @@ const CALLS: [Call; 5] = [
 
 fn unit_element(g: &mut Random) -> Vec<f64> {
     let q = unit(g).to_vec();
+    element(g, q)
+}
+
+fn element(g: &mut Random, q: Vec<f64>) -> Vec<f64> {
     [values(g, 3, 1.0), q, values(g, 3, 1.0), values(g, 1, 0.01)].concat()
+}
+
+fn small_rotation(g: &mut Random) -> Vec<f64> {
+    [vec![1.0], values(g, 3, 2e-6)].concat()
+}
+
+/// A quaternion that turns by an angle from 1/16 to 3; of the two that are this rotation either.
+fn rotation(g: &mut Random) -> Vec<f64> {
+    let theta = turn(g);
+    let half = theta.iter().map(|value| value * value).sum::<f64>().sqrt() / 2.0;
+    let sign = 1f64.copysign(g.small());
+    let vector = theta
+        .iter()
+        .map(|value| sign * half.sin() * value / (2.0 * half));
+    [sign * half.cos()].into_iter().chain(vector).collect()
 }
 
 /// A rotation vector with an angle from 1/16 to 3.

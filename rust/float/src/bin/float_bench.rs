@@ -1,6 +1,7 @@
-//! float_bench: times the square root of the static library beside the machine's, and its sine and cosine beside libm's, all called through the C
-//! boundary, and prints three tables. Rounds of two functions alternate; a figure is the median of its rounds.
+//! float_bench: times the square root of the static library beside the machine's, its sine and cosine beside libm's, and its half-angle beside libm's
+//! atan2, all called through the C boundary, and prints four tables. Rounds of two functions alternate; a figure is the median of its rounds.
 use float::patterns::{self, Random};
+use std::f64::consts::FRAC_PI_2;
 use std::hint::black_box;
 use std::time::Instant;
 
@@ -8,6 +9,7 @@ extern "C" {
     fn float_sqrt(x: f64) -> f64;
     fn float_sine(x: f64) -> f64;
     fn float_cosine(x: f64) -> f64;
+    fn float_half_angle(s: f64, c: f64) -> f64;
 }
 
 #[inline(never)]
@@ -26,45 +28,83 @@ extern "C" fn cosine_of_libm(x: f64) -> f64 {
 }
 
 #[inline(never)]
+extern "C" fn atan2_of_libm(s: f64, c: f64) -> f64 {
+    s.atan2(c)
+}
+
+#[inline(never)]
 extern "C" fn unchanged(x: f64) -> f64 {
     x
 }
 
-/// Takes every number, and touches no memory.
-type Function = unsafe extern "C" fn(f64) -> f64;
+#[inline(never)]
+extern "C" fn first_unchanged(s: f64, _: f64) -> f64 {
+    s
+}
+
+/// Takes every number, or every two, and touches no memory.
+trait Function: Copy {
+    /// As patterns.
+    type Argument;
+
+    /// The pattern of the result. Each number is taken with these bits changed.
+    fn call(self, argument: &Self::Argument, changed: u64) -> u64;
+}
+
+type OfOne = unsafe extern "C" fn(f64) -> f64;
+type OfTwo = unsafe extern "C" fn(f64, f64) -> f64;
+
+impl Function for OfOne {
+    type Argument = u64;
+
+    #[inline(always)]
+    fn call(self, x: &u64, changed: u64) -> u64 {
+        // SAFETY: a `Function` is safe to call.
+        unsafe { self(f64::from_bits(x ^ changed)) }.to_bits()
+    }
+}
+
+impl Function for OfTwo {
+    type Argument = [u64; 2];
+
+    #[inline(always)]
+    fn call(self, argument: &[u64; 2], changed: u64) -> u64 {
+        let [s, c] = argument.map(|number| f64::from_bits(number ^ changed));
+        // SAFETY: a `Function` is safe to call.
+        unsafe { self(s, c) }.to_bits()
+    }
+}
 
 const CALLS: usize = 1 << 14;
 const ROUNDS: usize = 201;
 
 /// Each argument waits for the result before it: `none` is 0, which the optimiser can't know.
 #[inline(never)]
-fn in_turn(f: Function, arguments: &[u64], none: u64) -> u64 {
+fn in_turn<F: Function>(f: F, arguments: &[F::Argument], none: u64) -> u64 {
     let mut last = 0;
-    for b in arguments {
-        // SAFETY: a `Function` is safe to call.
-        last = unsafe { f(f64::from_bits(b ^ (last & none))) }.to_bits();
+    for argument in arguments {
+        last = f.call(argument, last & none);
     }
     last
 }
 
 /// The calls are independent of each other.
 #[inline(never)]
-fn side_by_side(f: Function, arguments: &[u64], none: u64) -> u64 {
+fn side_by_side<F: Function>(f: F, arguments: &[F::Argument], none: u64) -> u64 {
     let mut all = none;
-    for b in arguments {
-        // SAFETY: a `Function` is safe to call.
-        all ^= unsafe { f(f64::from_bits(*b)) }.to_bits();
+    for argument in arguments {
+        all ^= f.call(argument, 0);
     }
     all
 }
 
-type Measure = fn(Function, &[u64], u64) -> u64;
+type Measure<F> = fn(F, &[<F as Function>::Argument], u64) -> u64;
 
 /// The median nanoseconds of a call of each function.
-fn times<const N: usize>(
-    measure: Measure,
-    functions: [Function; N],
-    arguments: &[u64],
+fn times<F: Function, const N: usize>(
+    measure: Measure<F>,
+    functions: [F; N],
+    arguments: &[F::Argument],
 ) -> [f64; N] {
     let mut rounds: [Vec<f64>; N] = std::array::from_fn(|_| Vec::new());
     for _ in 0..ROUNDS {
@@ -80,7 +120,7 @@ fn times<const N: usize>(
     })
 }
 
-fn drawn(mut draw: impl FnMut(&mut Random) -> u64) -> Vec<u64> {
+fn drawn<A>(mut draw: impl FnMut(&mut Random) -> A) -> Vec<A> {
     let mut g = Random(patterns::SEED);
     (0..CALLS).map(|_| draw(&mut g)).collect()
 }
@@ -90,18 +130,31 @@ fn up_to(most: f64) -> Vec<u64> {
     drawn(|g| (most * (g.below(1 << 54) as f64 / (1u64 << 53) as f64 - 1.0)).to_bits())
 }
 
+/// Sine and cosine of an angle from 0 to `most`.
+fn sines_and_cosines(most: f64) -> Vec<[u64; 2]> {
+    drawn(|g| {
+        let angle = most * (g.below(1 << 53) as f64 / (1u64 << 53) as f64);
+        [angle.sin(), angle.cos()].map(f64::to_bits)
+    })
+}
+
 /// A line for each class of arguments and each measure.
-fn table(ours: (&str, Function), other: (&str, Function), classes: &[(&str, Vec<u64>)]) {
+fn table<F: Function>(
+    ours: (&str, F),
+    other: (&str, F),
+    nothing: F,
+    classes: &[(&str, Vec<F::Argument>)],
+) {
     let (our_name, our_function) = ours;
     let (other_name, other_function) = other;
     println!("| argument | measure | {our_name}, ns | {other_name}, ns | ratio | call alone, ns |");
     println!("|---|---|---:|---:|---:|---:|");
     for (name, arguments) in classes {
         for (kind, measure) in [
-            ("latency", in_turn as Measure),
+            ("latency", in_turn as Measure<F>),
             ("throughput", side_by_side),
         ] {
-            let functions = [our_function, other_function, unchanged];
+            let functions = [our_function, other_function, nothing];
             let [ours, other, call] = times(measure, functions, arguments);
             println!(
                 "| {name} | {kind} | {ours:.2} | {other:.2} | {:.2} | {call:.2} |",
@@ -134,9 +187,10 @@ fn main() {
         ("normal, any binade", drawn(|g| patterns::normal(g)[0])),
         ("subnormal", drawn(|g| patterns::subnormal(g)[0])),
     ];
-    table(
+    table::<OfOne>(
         ("float_sqrt", float_sqrt),
         ("machine", from_machine),
+        unchanged,
         &classes,
     );
     let angles = [
@@ -144,10 +198,23 @@ fn main() {
         ("up to 1.5", up_to(1.5)),
         ("up to 2^-10", up_to(0.0009765625)),
     ];
-    table(("float_sine", float_sine), ("libm", sine_of_libm), &angles);
-    table(
-        ("float_cosine", float_cosine),
-        ("libm", cosine_of_libm),
+    for (ours, libm) in [
+        (
+            ("float_sine", float_sine as OfOne),
+            ("libm", sine_of_libm as OfOne),
+        ),
+        (("float_cosine", float_cosine), ("libm", cosine_of_libm)),
+    ] {
+        table(ours, libm, unchanged, &angles);
+    }
+    let angles = [
+        ("up to π/2", sines_and_cosines(FRAC_PI_2)),
+        ("up to 1/16", sines_and_cosines(0.0625)),
+    ];
+    table::<OfTwo>(
+        ("float_half_angle", float_half_angle),
+        ("libm's atan2", atan2_of_libm),
+        first_unchanged,
         &angles,
     );
 }

@@ -1,9 +1,9 @@
-//! What docs/src answers to a request. The refusals come first: 1, 2, 7 and 3 by the reading in `requests`, 4 by the tests
-//! that docs/src's functions make, at the numbers that docs/src computes. Then docs/src's own function of the call's
-//! name gives the values, and 5 looks at these.
+//! What docs/src answers to a request. The refusals come first: 1, 2, 7 and 3 by the reading in `requests`, 4 by tests of
+//! numbers that docs/src computes. Then docs/src's own function of the call's name gives the values, and 5 looks at
+//! these.
 //!
-//! The package `answers` takes docs/src over our sine and cosine, and `answers_libm`, which is this same code, docs/src
-//! unchanged, over the machine's.
+//! The package `answers` takes docs/src over our sine, cosine and half-angle, and `answers_libm`, which is this same code,
+//! docs/src unchanged, over the machine's sine, cosine and atan2.
 //!
 //! docs/src knows the tolerance 1e-6 only. No operation depends on it, so at another one the values are still docs/src's,
 //! and only its own checks may say otherwise.

@@ -157,6 +157,13 @@ fn try_from_quaternion(request: &Request) -> SO3 {
     }
 }
 
+/// By the numbers that SO3's log calls sin_angle and cos_angle.
+fn half_angle(rotation: &SO3) -> f64 {
+    let q = rotation.quat();
+    let sin_angle_squared = q.i * q.i + q.j * q.j + q.k * q.k;
+    sines::half_angle(sin_angle_squared.sqrt(), q.w.abs())
+}
+
 /// The three rows that docs/src fills.
 fn act_jacobian_self(request: &Request, to: To) -> bool {
     let mut jacobian = SGal3::zero_jacobian();
@@ -239,9 +246,10 @@ const FUNCTIONS: &[(&str, Function)] = &[
     ("so3_minus", |x, to| list(to, rotation(&x.first).minus(&rotation(&x.second), None, None).as_slice())),
     ("so3_minus_jacobian_self", |x, to| jacobian3(to, |j| rotation(&x.first).minus(&rotation(&x.second), j, None))),
     ("so3_minus_jacobian_other", |x, to| jacobian3(to, |j| rotation(&x.first).minus(&rotation(&x.second), None, j))),
-    // ---- numbers: these two aren't docs/src's own
+    // ---- numbers: these three aren't docs/src's own
     ("sine", |x, to| list(to, &[sines::sine(number(&x.first))])),
     ("cosine", |x, to| list(to, &[sines::cosine(number(&x.first))])),
+    ("so3_half_angle", |x, to| list(to, &[half_angle(&rotation(&x.first))])),
     // ---- SGal(3): elements
     ("sgal3_compose", |x, to| sgal3(to, element(&x.first).compose(&element(&x.second), None, None))),
     ("sgal3_inverse", |x, to| sgal3(to, element(&x.first).inverse(None))),

@@ -98,6 +98,88 @@ fn partial_elements() {
     assert!(refused > 0);
 }
 
+/// The values of an accepted call.
+fn values(name: &str, block: &[f64]) -> Vec<f64> {
+    let outcome = asked(&request(name, block, &[]));
+    assert_eq!(outcome.number, 0, "{name} of {block:?}");
+    outcome.values.iter().map(|b| f64::from_bits(*b)).collect()
+}
+
+/// Tangents of SGal(3), by rising angles up to the limit.
+fn tangents() -> impl Iterator<Item = [f64; 10]> {
+    let directions = [
+        [1.0, 0.0, 0.0],
+        [0.6, 0.0, -0.8],
+        [2.0 / 7.0, 3.0 / 7.0, 6.0 / 7.0],
+    ];
+    (1..192).flat_map(move |step| {
+        let angle = f64::from(step) / 64.0;
+        directions.map(|direction| {
+            let [x, y, z] = direction.map(|value| value * angle);
+            [1.0, -2.0, 0.5, 0.25, 3.0, -1.0, x, y, z, 2.0]
+        })
+    })
+}
+
+fn assert_near(found: &[f64], expected: &[f64], within: f64) {
+    assert_eq!(found.len(), expected.len());
+    for (a, b) in found.iter().zip(expected) {
+        assert!((a - b).abs() <= within, "{found:?} for {expected:?}");
+    }
+}
+
+#[test]
+fn log_undoes_exp() {
+    for tangent in tangents() {
+        let theta = &tangent[6..9];
+        assert_near(
+            &values("so3_log", &values("so3_exp", theta)),
+            theta,
+            2f64.powi(-48),
+        );
+        // M's second coefficient is a difference of nearly equal numbers over the angle's fourth power.
+        let angle = theta.iter().map(|value| value * value).sum::<f64>().sqrt();
+        let within = 2f64.powi(-43) / angle.min(1.0).powi(4);
+        assert_near(
+            &values("sgal3_log", &values("sgal3_exp", &tangent)),
+            &tangent,
+            within,
+        );
+    }
+}
+
+#[test]
+fn the_inverse_jacobian_inverts() {
+    let identity: [f64; 9] = std::array::from_fn(|at| if at % 4 == 0 { 1.0 } else { 0.0 });
+    for tangent in tangents() {
+        let of = |name: &str| values(name, &tangent[6..9]);
+        for side in ["left", "right"] {
+            let jacobian = of(&format!("so3_{side}_jacobian"));
+            let inverse = of(&format!("so3_{side}_jacobian_inv"));
+            let product: [f64; 9] = std::array::from_fn(|at| {
+                let (row, column) = (at / 3, at % 3);
+                (0..3)
+                    .map(|k| jacobian[3 * row + k] * inverse[3 * k + column])
+                    .sum()
+            });
+            assert_near(&product, &identity, 2f64.powi(-43));
+        }
+    }
+}
+
+/// q and -q are the same rotation, with the same half-angle.
+#[test]
+fn both_quaternions_of_a_rotation() {
+    for tangent in tangents() {
+        let q = values("so3_exp", &tangent[6..9]);
+        let other: Vec<f64> = q.iter().map(|value| -value).collect();
+        for name in ["so3_log", "so3_log_jacobian", "so3_half_angle"] {
+            let [one, same] = [&q, &other].map(|q| asked(&request(name, q, &[])));
+            assert_eq!(one, same, "{name} of {q:?}");
+        }
+    }
+}
+
 /// Each number is tried over all blocks before the next, and a matrix is all +0 on a refusal.
 #[test]
 fn order_of_the_refusals() {

@@ -1,8 +1,8 @@
-//! docs/src itself, unchanged, compiled over the stand-ins: it takes the machine's sine and cosine.
+//! docs/src itself, unchanged, compiled over the stand-ins: it takes the machine's sine, cosine and atan2.
 // As in ../apex/src/lib.rs.
 include!(concat!(env!("OUT_DIR"), "/root.rs"));
 
-/// The sine and the cosine that are taken here.
+/// The sine, the cosine and the half-angle that are taken here.
 pub mod sines {
     pub fn sine(x: f64) -> f64 {
         x.sin()
@@ -10,5 +10,9 @@ pub mod sines {
 
     pub fn cosine(x: f64) -> f64 {
         x.cos()
+    }
+
+    pub fn half_angle(s: f64, c: f64) -> f64 {
+        f64::atan2(s, c)
     }
 }

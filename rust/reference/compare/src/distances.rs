@@ -1,15 +1,18 @@
-//! How far the answers of a program lie from those of docs/src over the machine's sine and cosine.
+//! How far the answers of a program lie from those of docs/src over the machine's sine, cosine and atan2.
 
-use requests::calls::{Answer, Call, Turn};
+use requests::calls::{Answer, Call, HALF_ANGLE, Turn};
 use requests::turning::{self, Band};
 use requests::{Outcome, Request, refusals};
 use std::collections::BTreeMap;
+use std::f64::consts::PI;
 use std::fmt::Write;
 
 /// Turns for which an agreement is asked.
 pub const TURNS: Band = Band::new(1.0 / 16.0, 3.0);
 /// Numbers of which sine and cosine are taken.
 pub const NUMBERS: Band = Band::new(0.0, 4.0);
+/// Turns whose half is taken.
+pub const HALVED: Band = Band::new(0.0, PI);
 /// Smaller turns, and numbers, of which nothing is asked: down to where the series begins.
 pub const SMALL: [Band; 5] = [
     Band::new(1.0 / 256.0, 1.0 / 16.0),
@@ -19,30 +22,53 @@ pub const SMALL: [Band; 5] = [
     Band::new(1e-5, 1.0 / 8192.0),
 ];
 
+/// The band in which a call has to agree.
+pub fn band(call: &Call) -> Band {
+    match call.turn {
+        Turn::Number => NUMBERS,
+        _ if call.number == HALF_ANGLE => HALVED,
+        _ => TURNS,
+    }
+}
+
 /// Which of the calls are measured together, by what they answer.
-const GROUPS: [&str; 5] = [
+const GROUPS: [&str; 9] = [
     "sine and cosine",
+    "half-angle",
     "SO(3) exp and plus",
+    "SO(3) log and minus",
     "SO(3) Jacobians",
+    "SO(3) inverse Jacobians",
     "SGal(3) exp and plus",
+    "SGal(3) log and minus",
     "SGal(3) Jacobians of plus",
 ];
 
 fn group(call: &Call) -> usize {
     match call.answer {
+        Answer::Number if call.number == HALF_ANGLE => 1,
         Answer::Number => 0,
-        Answer::Rotation => 1,
-        Answer::Matrix(9) => 2,
-        Answer::Element => 3,
-        _ => 4,
+        Answer::Rotation => 2,
+        Answer::So3Tangent => 3,
+        Answer::Matrix(9) if takes_inverse(call) => 5,
+        Answer::Matrix(9) => 4,
+        Answer::Element => 6,
+        Answer::Sgal3Tangent => 7,
+        _ => 8,
     }
 }
 
-/// What a value may be away from docs/src's: 2^-24; and of sine and cosine themselves 2^-44. They are within 2^-45 of the
-/// Taylor sums, and the machine's are nearer to these.
+/// Whether a call of SO(3) answers an inverse Jacobian, or a product with one.
+fn takes_inverse(call: &Call) -> bool {
+    call.name.ends_with("_inv") || matches!(call.turn, Turn::Log(_))
+}
+
+/// What a value may be away from docs/src's: 2^-24; and sine, cosine and the half-angle themselves 2^-44. Sine and cosine are within 2^-45 of the Taylor
+/// sums, and the machine's are nearer to these. The half-angle is as far off as the excess is, c times the one's error and s times the other's: 2^-44.5,
+/// and some roundings of numbers below 2.
 pub fn bound(call: &Call) -> f64 {
-    match call.turn {
-        Turn::Number => 2f64.powi(-44),
+    match call.answer {
+        Answer::Number => 2f64.powi(-44),
         _ => 2f64.powi(-24),
     }
 }
@@ -171,21 +197,22 @@ impl Distances for SmallTurns {
         Ok(())
     }
 
-    /// A line for each band.
+    /// A line for each group.
     fn table(&self) -> Result<String, String> {
-        let mut text = format!("{:<20}", "turn");
-        for name in GROUPS {
-            write!(text, "{name:>28}").unwrap();
+        let mut text = format!("{:<28}", "calls");
+        let names = SMALL.map(|band| format!("{} to {}", size(band.least), size(band.most)));
+        for name in &names {
+            write!(text, "{name:>16}").unwrap();
         }
         text.push('\n');
-        for (band, groups) in SMALL.iter().zip(&self.by_band) {
-            let name = format!("{} to {}", size(band.least), size(band.most));
-            write!(text, "{name:<20}").unwrap();
-            for largest in groups {
+        for (place, group) in GROUPS.iter().enumerate() {
+            write!(text, "{group:<28}").unwrap();
+            for (name, groups) in names.iter().zip(&self.by_band) {
+                let largest = groups[place];
                 if largest.requests == 0 {
-                    return Err(format!("turns from {name} were never asked\n"));
+                    return Err(format!("{group}: turns from {name} were never asked\n"));
                 }
-                write!(text, "{:>28}", largest.words()).unwrap();
+                write!(text, "{:>16}", largest.words()).unwrap();
             }
             text.push('\n');
         }

@@ -1,9 +1,8 @@
-//! The answers over our sine and cosine agree with those over the machine's, and wrong ones don't pass.
+//! The answers over our sine, cosine and half-angle agree with those over the machine's sine, cosine and atan2, and wrong ones don't pass.
 
-use compare::distances::{Agreement, Distances, NUMBERS, TURNS, bound};
-use nalgebra::{UnitQuaternion, Vector3};
+use compare::distances::{Agreement, Distances, band, bound};
+use nalgebra::{Matrix3, UnitQuaternion, Vector3};
 use requests::bench_list::{accepted, refused};
-use requests::calls::Turn;
 use requests::turning::{self, Turning};
 use requests::{Outcome, Refusal, Request};
 use std::process::{Command, Stdio};
@@ -15,12 +14,8 @@ fn agreement(each: usize, answer: impl Fn(&Request, &mut Outcome)) -> Result<Str
     let mut request = Request::default();
     let (mut reference, mut outcome) = (Outcome::default(), Outcome::default());
     for call in turning::calls() {
-        let band = match call.turn {
-            Turn::Number => NUMBERS,
-            _ => TURNS,
-        };
         for _ in 0..each {
-            turning.draw_for(call, band, &mut request);
+            turning.draw_for(call, band(call), &mut request);
             answers_libm::answer(&request, &mut reference);
             answer(&request, &mut outcome);
             agreement.look(&request, &reference, &outcome)?;
@@ -44,7 +39,7 @@ fn the_two_references_differ() {
     let (mut reference, mut outcome) = (Outcome::default(), Outcome::default());
     for call in turning::calls() {
         for _ in 0..1000 {
-            turning.draw_for(call, TURNS, &mut request);
+            turning.draw_for(call, band(call), &mut request);
             answers_libm::answer(&request, &mut reference);
             answers::answer(&request, &mut outcome);
             differ += u32::from(outcome != reference);
@@ -104,11 +99,11 @@ fn no_finite_answer() {
             false => answers::answer(request, outcome),
         }
     };
-    let values = [1.0, 0.0, 0.0, f64::NAN];
+    let values = vec![f64::NAN; call.answer.length()];
     for wrong in [
         refused(Refusal::Turn),
         accepted(&values),
-        accepted(&values[..3]),
+        accepted(&values[1..]),
         accepted(&[]),
     ] {
         assert!(
@@ -137,6 +132,56 @@ fn a_wrong_sine() {
     assert!(agreement(2000, exp(|_| 2f64.powi(-22))).is_err());
     let largest = |angle: f64| if angle > 1.45 { 2f64.powi(-22) } else { 0.0 };
     assert!(agreement(2000, exp(largest)).is_err());
+}
+
+/// SO(3)'s log with a half-angle that is wrong by the bound, so that theta is by twice that; for all angles or for the largest alone. And with one that is
+/// not negated where w is below zero.
+#[test]
+fn a_wrong_half_angle() {
+    let log = |wrong: fn(f64, f64) -> f64| {
+        move |request: &Request, outcome: &mut Outcome| {
+            answers::answer(request, outcome);
+            if request.call().name == "so3_log" {
+                let w = f64::from_bits(request.first[0]);
+                let [x, y, z] = std::array::from_fn(|at| f64::from_bits(outcome.values[at]));
+                let half = Vector3::new(x, y, z).norm() / 2.0;
+                let values = [x, y, z].map(|value| value / half * wrong(half, w));
+                outcome.clone_from(&accepted(&values));
+            }
+        }
+    };
+    assert!(agreement(2000, log(|half, _| half)).is_ok());
+    assert!(agreement(2000, log(|half, _| half + 2f64.powi(-24))).is_err());
+    let largest = |half, _| match half > 1.45 {
+        true => half + 2f64.powi(-24),
+        false => half,
+    };
+    assert!(agreement(2000, log(largest)).is_err());
+    assert!(agreement(2000, log(|half, w: f64| half.copysign(w))).is_err());
+}
+
+/// The inverse Jacobian with a sine that is wrong by the bound: it divides, and at small angles the answer is further off.
+#[test]
+fn a_wrong_sine_that_divides() {
+    let inverse = |wrong: f64| {
+        move |request: &Request, outcome: &mut Outcome| {
+            answers::answer(request, outcome);
+            if request.call().name == "so3_left_jacobian_inv" {
+                let [x, y, z] = request.theta().expect("a tangent");
+                let theta = Vector3::new(x, y, z);
+                let angle = theta.norm();
+                let sine = trigonometry::sine(angle) + wrong;
+                let k = (1.0 + trigonometry::cosine(angle)) / (2.0 * angle * sine);
+                let k = 1.0 / theta.norm_squared() - k;
+                let hat = Matrix3::new(0.0, -z, y, z, 0.0, -x, -y, x, 0.0);
+                let matrix = Matrix3::identity() - 0.5 * hat + k * hat * hat;
+                let values: [f64; 9] = std::array::from_fn(|at| matrix[(at / 3, at % 3)]);
+                outcome.clone_from(&accepted(&values));
+            }
+        }
+    };
+    assert!(agreement(2000, inverse(0.0)).is_ok());
+    assert!(agreement(2000, inverse(2f64.powi(-24))).is_err());
 }
 
 /// A program that ends at once, and one that says back what it is asked; and no requests at all.

@@ -8,6 +8,7 @@ use crate::Refusal;
 use crate::calls::CALLS;
 use crate::format::{Outcome, Request};
 use crate::refusals::{MOST_TOLERANCE, TOLERANCE};
+use crate::turning::LARGEST_OF_SERIES;
 
 /// A line of the list.
 pub struct Line {
@@ -66,6 +67,14 @@ pub fn refused(refusal: Refusal) -> Outcome {
         number: refusal.number(),
         figures: refusal.figures(),
         values: Vec::new(),
+    }
+}
+
+/// The same of a call that answers nine places.
+fn refused_matrix(refusal: Refusal) -> Outcome {
+    Outcome {
+        values: vec![0; 9],
+        ..refused(refusal)
     }
 }
 
@@ -257,12 +266,88 @@ pub fn lines() -> Vec<Line> {
         &[],
         accepted(&theta),
     );
+    let mut tangent = [0.0; 10];
+    tangent[6..9].copy_from_slice(&theta);
     line(
         "SGal3 log of (1, 2^-17, 0, 0)",
         "sgal3_log",
         &turned(q),
         &[],
+        accepted(&tangent),
+    );
+    let bits = f64::from_bits;
+    let about_x = |same: u64, off: f64| {
+        let same = bits(same);
+        accepted(&[1.0, 0.0, 0.0, 0.0, same, -off, 0.0, off, same])
+    };
+    line(
+        "SO3 log's Jacobian of (1, 2^-17, 0, 0)",
+        "so3_log_jacobian",
+        &q,
+        &[],
+        about_x(0x3fef_ffff_fffd_5556, theta[0] / 2.0),
+    );
+
+    // Half of theta is off the diagonal, so that it is -1.5 at the limit.
+    let further = 3f64.next_up();
+    for (says, x, outcome) in [
+        (
+            "inverse Jacobian of theta (2^-16, 0, 0)",
+            power(-16),
+            about_x(0x3fef_ffff_fffd_5555, -power(-17)),
+        ),
+        (
+            "inverse Jacobian of theta (1, 0, 0)",
+            1.0,
+            about_x(0x3fed_49ad_7e47_c0a3, -0.5),
+        ),
+        (
+            "inverse Jacobian of theta (3, 0, 0)",
+            3.0,
+            about_x(0x3fbb_3b36_7d9f_0610, -1.5),
+        ),
+        (
+            "inverse Jacobian of the next theta",
+            further,
+            refused_matrix(Refusal::Turn),
+        ),
+    ] {
+        let theta = [x, 0.0, 0.0];
+        line(says, "so3_left_jacobian_inv", &theta, &[], outcome);
+    }
+
+    // A third of a turn about (1, 1, 1): 2π / 3 over the root of 3, a number beside the nearest.
+    let third = [bits(0x3ff3_58e1_a79e_d7e2); 3];
+    for (says, q) in [
+        ("log of a third of a turn", [0.5; 4]),
+        ("log of the same by the other quaternion", [-0.5; 4]),
+    ] {
+        line(says, "so3_log", &q, &[], accepted(&third));
+        let mut tangent = [0.0; 10];
+        tangent[6..9].copy_from_slice(&third);
+        line(says, "sgal3_log", &turned(q), &[], accepted(&tangent));
+    }
+    line(
+        "log of half a turn",
+        "so3_log",
+        &[0.0, 1.0, 0.0, 0.0],
+        &[],
         refused(Refusal::Turn),
+    );
+    // A number beside the nearest to π / 2.
+    line(
+        "half-angle of half a turn",
+        "so3_half_angle",
+        &[-0.0, 1.0, 0.0, 0.0],
+        &[],
+        accepted(&[bits(0x3ff9_21fb_5444_2d19)]),
+    );
+    line(
+        "half-angle of no turn",
+        "so3_half_angle",
+        &[1.0, 0.0, 0.0, 0.0],
+        &[],
+        accepted(&[0.0]),
     );
 
     line("empty chain", "sgal3_chain", &[], &[], accepted(&IDENTITY));
@@ -402,6 +487,60 @@ pub fn orders() -> Vec<Order> {
     column(says, 1, [1.0, 0.0, 0.0], 1, 0x3fdd_6baf_e095_f2e8);
     let says = "M's square of hat by its factor";
     column(says, 0, [2.0, 1.4, 0.0], 0, 0x3fdb_b54b_95ba_84e3);
+    let number = f64::from_bits;
+    let of_half = |x| [number(0x3fef_ffff_fff9_20c8), number(x), 0.0, 0.0];
+    let says = "log's series, at the limit of the half angle";
+    order(
+        says,
+        "so3_log",
+        &of_half(LARGEST_OF_SERIES),
+        &[],
+        0,
+        0x3ef4_f8b5_88e3_68f0,
+    );
+    let says = "log's closed form, just above it";
+    order(
+        says,
+        "so3_log",
+        &of_half(LARGEST_OF_SERIES + 1),
+        &[],
+        0,
+        0x3ef4_f8b5_88e4_e940,
+    );
+    let says = "the inverse Jacobian's series, at the limit of the squared angle";
+    let name = "so3_left_jacobian_inv";
+    let theta = [number(LARGEST_OF_SERIES), 0.0, 0.0];
+    order(says, name, &theta, &[], 4, 1f64.to_bits());
+    let says = "the inverse Jacobian's closed form, just above it";
+    let theta = [number(LARGEST_OF_SERIES + 1), 0.0, 0.0];
+    order(says, name, &theta, &[], 4, 0x3fef_ffff_fffe_dacd);
+    let says = "the inverse Jacobian's quotient by twice the angle times the sine";
+    let theta = [0.5, 1.0, 0.0];
+    order(says, name, &theta, &[], 1, 0x3fa5_ca9b_4bb6_4458);
+    let says = "the inverse Jacobian's hat by its factor, and then by hat";
+    let theta = [-1.5, 1.2, 0.0];
+    order(says, name, &theta, &[], 0, 0x3feb_e6a6_af12_62df);
+    let says = "log's angle over the sine, and then by each value";
+    let seventh = over(7.0, [2.0, 4.0, 5.0, 2.0]);
+    order(says, "so3_log", &seventh, &[], 0, 0x3ff8_719a_1c14_5418);
+    let says = "the coupling by the velocity, and then by the time";
+    let mut element = turned([0.8, 0.6, 0.0, 0.0]);
+    (element[8], element[10]) = (1.0, 3.0);
+    order(says, "sgal3_log", &element, &[], 1, 0xbff1_2f1f_464d_3dc4);
+    // Inside the inverse Jacobian's series when normalised once, and outside when normalised twice.
+    let q = [
+        0x3ff0_0000_94ff_2419,
+        0xbeca_8153_cd46_26f6,
+        0x3ed0_40e0_ad82_201e,
+        0,
+    ]
+    .map(number);
+    let says = "a rotation is normalised once";
+    order(says, "so3_log_jacobian", &q, &[], 8, 1f64.to_bits());
+    let says = "a rotation within an element is normalised twice";
+    let mut element = turned(q);
+    element[9] = 1.0;
+    order(says, "sgal3_log", &element, &[], 5, 0x3fef_ffff_fffe_dacb);
     let says = "a Jacobian that is a negated adjoint is opened before it is negated";
     order(says, "sgal3_inverse_jacobian", &IDENTITY, &[], 30, 1 << 63);
     order(
@@ -461,28 +600,26 @@ pub struct Limit {
     pub number: u64,
 }
 
-/// Turns whose squared angle is a limit, or a neighbour of it, and numbers of which sine and cosine are taken.
+/// Turns whose squared angle is a limit, or a neighbour of it, half turns, and numbers of which sine and cosine are taken.
 #[rustfmt::skip]
 pub fn limits() -> Vec<Limit> {
-    const LARGEST_OF_SERIES: u64 = 0x3ee4_f8b5_88e3_68f0;
     let mut list = Vec::new();
     let mut limit = |says, name, first: &[u64], number| {
         let request = Request { first: first.to_vec(), ..request(name, &[], &[]) };
         list.push(Limit { says, request, number });
     };
-    for name in ["so3_left_jacobian_inv", "so3_right_jacobian_inv"] {
-        let says = "inside, unless the squares are added from the right";
+    const JACOBIANS: [&str; 5] = [
+        "so3_exp_jacobian", "so3_left_jacobian", "so3_right_jacobian", "so3_left_jacobian_inv", "so3_right_jacobian_inv",
+    ];
+    for name in &JACOBIANS[3..] {
+        let says = "of the series, unless the squares are added from the right";
         let theta = [0x3ee0_05a6_75f6_0b21, 0x3eda_c4d3_f642_97ab, 0xbeaf_d1b7_0832_98a9];
         limit(says, name, &theta, 0);
-        let says = "the squared angle is the limit";
+        let says = "the squared angle is the limit of the series";
         let theta = [0x3ee2_ab4a_356c_e8f8, 0x3ed3_1b64_0888_66aa, 0];
         limit(says, name, &theta, 0);
-        let says = "the largest theta inside on one axis";
-        limit(says, name, &[LARGEST_OF_SERIES, 0, 0], 0);
-        let says = "the smallest theta outside on one axis";
-        limit(says, name, &[LARGEST_OF_SERIES + 1, 0, 0], 4);
     }
-    // On both sides of the series' limit exp is accepted, and its own limit is 9.
+    // On both sides of the series' limit all are accepted, and the limit is 9.
     let further = |value: f64| f64::from_bits(value.to_bits() + 1);
     let of_series = f64::from_bits(LARGEST_OF_SERIES);
     for (says, theta, number) in [
@@ -496,7 +633,8 @@ pub fn limits() -> Vec<Limit> {
         ("the squared angle overflows", [0.0, -f64::MAX, 0.0], 4),
     ] {
         let theta = bits(&theta);
-        for name in ["so3_exp", "so3_exp_jacobian", "so3_left_jacobian", "so3_right_jacobian"] {
+        limit(says, "so3_exp", &theta, number);
+        for name in JACOBIANS {
             limit(says, name, &theta, number);
         }
         let mut tangent = vec![0; 10];
@@ -524,16 +662,61 @@ pub fn limits() -> Vec<Limit> {
             limit(says, name, &bits(&[x]), number);
         }
     }
-    let says = "the half angle is at the limit";
-    let half = [0x3fef_ffff_fff9_20c8, 0xbeb8_fc14_cc0c_d4c5, 0x3e63_e91c_0d1f_e4de, 0xbee4_bcce_6bee_5d54];
-    limit(says, "so3_log", &half, 0);
-    limit(says, "so3_log_jacobian", &half, 4);
-    let says = "inside when normalised once, outside when normalised twice";
-    let angle = [0x3ff0_0000_94ff_2419, 0xbeca_8153_cd46_26f6, 0x3ed0_40e0_ad82_201e, 0];
-    limit(says, "so3_log_jacobian", &angle, 0);
-    let mut element = bits(&IDENTITY);
-    element[3..7].copy_from_slice(&angle);
-    limit(says, "sgal3_log", &element, 4);
+    list.extend(logarithms());
+    list
+}
+
+/// Rotations whose logarithm has a squared angle of 9 or nearly, half turns, and rotations at the limit of log's series.
+#[rustfmt::skip]
+fn logarithms() -> Vec<Limit> {
+    let mut list = Vec::new();
+    let mut limit = |says, name, first: &[f64], second: &[f64], number| {
+        let request = request(name, first, second);
+        list.push(Limit { says, request, number });
+    };
+    // With this cosine of the half angle the logarithm is 3 on the axis, and with the next smaller one the number after 3.
+    let [sine, cosine, smaller] = [0x3fef_eb7a_9b2c_6d8b, 0x3fb2_1bd5_4fc5_f99d, 0x3fb2_1bd5_4fc5_f99c].map(f64::from_bits);
+    let half = [0x3fef_ffff_fff9_20c8, 0xbeb8_fc14_cc0c_d4c5, 0x3e63_e91c_0d1f_e4de, 0xbee4_bcce_6bee_5d54].map(f64::from_bits);
+    let still = [1.0, 0.0, 0.0, 0.0];
+    for (says, q, number) in [
+        ("the logarithm's squared angle is 9", [cosine, sine, 0.0, 0.0], 0),
+        ("the logarithm's squared angle is 9", [cosine, 0.0, -sine, 0.0], 0),
+        ("the logarithm's squared angle is 9", [-cosine, 0.0, 0.0, -sine], 0),
+        ("the next quaternion", [smaller, sine, 0.0, 0.0], 4),
+        ("the next quaternion", [smaller, 0.0, -sine, 0.0], 4),
+        ("the next quaternion", [-smaller, 0.0, 0.0, -sine], 4),
+        ("half a turn", [0.0, 1.0, 0.0, 0.0], 4),
+        ("half a turn", [-0.0, 0.0, -1.0, 0.0], 4),
+        ("half a turn", [5e-324, 0.0, 0.6, 0.8], 4),
+        ("half a turn", [-5e-324, 0.0, 0.6, -0.8], 4),
+        ("nearly half a turn", [1e-9, 0.8, 0.0, 0.6], 4),
+        ("a whole turn", [-1.0, 0.0, -0.0, 0.0], 0),
+        ("the half angle is at the limit of log's series", half, 0),
+    ] {
+        let element = turned(q);
+        for name in ["so3_log", "so3_vee", "so3_log_jacobian"] {
+            limit(says, name, &q, &[], number);
+        }
+        for name in ["sgal3_log", "sgal3_vee"] {
+            limit(says, name, &element, &[], number);
+        }
+        for name in [
+            "so3_minus", "so3_minus_jacobian_self", "so3_minus_jacobian_other",
+            "so3_left_minus", "so3_left_minus_jacobian_self", "so3_left_minus_jacobian_other",
+        ] {
+            limit(says, name, &q, &still, number);
+            limit(says, name, &still, &q, number);
+        }
+        for name in ["sgal3_minus", "sgal3_left_minus"] {
+            limit(says, name, &element, &IDENTITY, number);
+            limit(says, name, &IDENTITY, &element, number);
+        }
+        limit("the half-angle has no limit", "so3_half_angle", &q, &[], 0);
+        // With this velocity and time the translation of the logarithm overflows, and 4 comes before 5.
+        let mut far = element;
+        far[7..].fill(f64::MAX);
+        limit(says, "sgal3_log", &far, &[], if number == 4 { 4 } else { 5 });
+    }
     list
 }
 

@@ -111,19 +111,15 @@ pub enum Of {
     LeftMinus,
 }
 
-/// What a call tests of a turn, and against which limit: refusal 4 is that one of these is above it.
+/// What a call tests of a turn, and against which limit: refusal 4 is that this is above it.
 #[derive(Clone, Copy, Debug, PartialEq, Eq)]
 pub enum Turn {
     /// Nothing.
     Untested,
     /// The squared angle of the tangent, which is the last block, against 9.
     Exp,
-    /// The squared angle of the tangent, against the series branch's limit.
-    Series,
-    /// The squared sine of the half angle, against the series branch's limit.
+    /// That of the logarithm, which is the answer or what a Jacobian is taken at, against 9.
     Log(Of),
-    /// The same, and the squared angle of the logarithm.
-    LogAndAngle(Of),
     /// The magnitude of the number, against 4.
     Number,
 }
@@ -168,9 +164,9 @@ impl Call {
             .any(|b| b.is_checked() && b.quaternion().is_some())
     }
 
-    /// Whether the call takes sines: that of a number, or those of a turn up to a squared angle of 9.
+    /// Whether the call takes sines or a half-angle: that of a number or of a rotation, or those of a turn up to a squared angle of 9.
     pub fn takes_sines(&self) -> bool {
-        matches!(self.turn, Turn::Exp | Turn::Number)
+        self.turn != Turn::Untested || self.number == HALF_ANGLE
     }
 
     /// Whether the extra word is a tolerance. is_valid's is its own: any is taken.
@@ -186,6 +182,8 @@ impl Call {
 
 /// The call whose four values are arguments of their own.
 pub const TRY_FROM_QUATERNION: u64 = 10;
+/// The call that answers the half-angle of any rotation, with no test of it.
+pub const HALF_ANGLE: u64 = 63;
 
 /// The call with this number.
 pub fn call(number: u64) -> Option<&'static Call> {
@@ -222,7 +220,7 @@ const fn entry(
 use Answer as A;
 use Block as B;
 use Of::{First, LeftMinus, RightMinus};
-use Turn::{Exp, Log, LogAndAngle, Series, Untested};
+use Turn::{Exp, Log, Untested};
 
 /// Every call, by rising number.
 #[rustfmt::skip]
@@ -242,7 +240,7 @@ pub const CALLS: &[Call] = &[
     entry(17, "so3_compose_jacobian_other", B::Rotation, B::Rotation, MATRIX3, Untested, SAFE),
     entry(18, "so3_log", B::Rotation, B::Absent, A::So3Tangent, Log(First), SAFE),
     entry(19, "so3_vee", B::Rotation, B::Absent, A::So3Tangent, Log(First), SAFE),
-    entry(20, "so3_log_jacobian", B::Rotation, B::Absent, MATRIX3, LogAndAngle(First), SAFE),
+    entry(20, "so3_log_jacobian", B::Rotation, B::Absent, MATRIX3, Log(First), SAFE),
     entry(21, "so3_act", B::Rotation, B::Vector, A::Vector, Untested, OVERFLOWS),
     entry(22, "so3_act_jacobian_self", B::Rotation, B::Vector, MATRIX3, Untested, OVERFLOWS),
     entry(23, "so3_act_jacobian_vector", B::Rotation, B::Vector, MATRIX3, Untested, SAFE),
@@ -253,8 +251,8 @@ pub const CALLS: &[Call] = &[
     entry(27, "so3_exp_jacobian", B::So3Tangent, B::Absent, MATRIX3, Exp, SAFE),
     entry(28, "so3_left_jacobian", B::So3Tangent, B::Absent, MATRIX3, Exp, SAFE),
     entry(29, "so3_right_jacobian", B::So3Tangent, B::Absent, MATRIX3, Exp, SAFE),
-    entry(30, "so3_left_jacobian_inv", B::So3Tangent, B::Absent, MATRIX3, Series, SAFE),
-    entry(31, "so3_right_jacobian_inv", B::So3Tangent, B::Absent, MATRIX3, Series, SAFE),
+    entry(30, "so3_left_jacobian_inv", B::So3Tangent, B::Absent, MATRIX3, Exp, SAFE),
+    entry(31, "so3_right_jacobian_inv", B::So3Tangent, B::Absent, MATRIX3, Exp, SAFE),
     entry(32, "so3_hat", B::So3Tangent, B::Absent, MATRIX3, Untested, SAFE),
     entry(33, "so3_small_adj", B::So3Tangent, B::Absent, MATRIX3, Untested, SAFE),
     entry(34, "so3_lie_bracket", B::So3Tangent, B::So3Tangent, A::So3Tangent, Untested, OVERFLOWS),
@@ -271,11 +269,11 @@ pub const CALLS: &[Call] = &[
     entry(44, "so3_left_plus_jacobian_tangent", B::Rotation, B::So3Tangent, MATRIX3, Exp, SAFE),
     entry(45, "so3_left_plus_jacobian_self", B::Rotation, B::So3Tangent, MATRIX3, Exp, SAFE),
     entry(46, "so3_right_minus", B::Rotation, B::Rotation, A::So3Tangent, Log(RightMinus), SAFE),
-    entry(47, "so3_right_minus_jacobian_self", B::Rotation, B::Rotation, MATRIX3, LogAndAngle(RightMinus), SAFE),
-    entry(48, "so3_right_minus_jacobian_other", B::Rotation, B::Rotation, MATRIX3, LogAndAngle(RightMinus), SAFE),
+    entry(47, "so3_right_minus_jacobian_self", B::Rotation, B::Rotation, MATRIX3, Log(RightMinus), SAFE),
+    entry(48, "so3_right_minus_jacobian_other", B::Rotation, B::Rotation, MATRIX3, Log(RightMinus), SAFE),
     entry(49, "so3_left_minus", B::Rotation, B::Rotation, A::So3Tangent, Log(LeftMinus), SAFE),
-    entry(50, "so3_left_minus_jacobian_self", B::Rotation, B::Rotation, MATRIX3, LogAndAngle(LeftMinus), SAFE),
-    entry(51, "so3_left_minus_jacobian_other", B::Rotation, B::Rotation, MATRIX3, LogAndAngle(LeftMinus), SAFE),
+    entry(50, "so3_left_minus_jacobian_self", B::Rotation, B::Rotation, MATRIX3, Log(LeftMinus), SAFE),
+    entry(51, "so3_left_minus_jacobian_other", B::Rotation, B::Rotation, MATRIX3, Log(LeftMinus), SAFE),
     entry(52, "so3_between", B::Rotation, B::Rotation, A::Rotation, Untested, SAFE),
     entry(53, "so3_between_jacobian_self", B::Rotation, B::Rotation, MATRIX3, Untested, SAFE),
     entry(54, "so3_between_jacobian_other", B::Rotation, B::Rotation, MATRIX3, Untested, SAFE),
@@ -283,11 +281,12 @@ pub const CALLS: &[Call] = &[
     entry(56, "so3_plus_jacobian_self", B::Rotation, B::So3Tangent, MATRIX3, Exp, SAFE),
     entry(57, "so3_plus_jacobian_tangent", B::Rotation, B::So3Tangent, MATRIX3, Exp, SAFE),
     entry(58, "so3_minus", B::Rotation, B::Rotation, A::So3Tangent, Log(RightMinus), SAFE),
-    entry(59, "so3_minus_jacobian_self", B::Rotation, B::Rotation, MATRIX3, LogAndAngle(RightMinus), SAFE),
-    entry(60, "so3_minus_jacobian_other", B::Rotation, B::Rotation, MATRIX3, LogAndAngle(RightMinus), SAFE),
+    entry(59, "so3_minus_jacobian_self", B::Rotation, B::Rotation, MATRIX3, Log(RightMinus), SAFE),
+    entry(60, "so3_minus_jacobian_other", B::Rotation, B::Rotation, MATRIX3, Log(RightMinus), SAFE),
     // ---- numbers
     entry(61, "sine", B::Number, B::Absent, A::Number, Turn::Number, SAFE),
     entry(62, "cosine", B::Number, B::Absent, A::Number, Turn::Number, SAFE),
+    entry(HALF_ANGLE, "so3_half_angle", B::Rotation, B::Absent, A::Number, Untested, SAFE),
     // ---- SGal(3): elements
     entry(70, "sgal3_compose", B::Element, B::Element, A::Element, Untested, OVERFLOWS),
     entry(71, "sgal3_inverse", B::Element, B::Absent, A::Element, Untested, OVERFLOWS),
@@ -298,8 +297,8 @@ pub const CALLS: &[Call] = &[
     entry(76, "sgal3_rotation_quaternion", B::Element, B::Absent, A::Rotation, Untested, SAFE),
     entry(77, "sgal3_rotation_matrix", B::Element, B::Absent, MATRIX3, Untested, SAFE),
     entry(78, "sgal3_coeffs", B::Element, B::Absent, A::Coefficients, Untested, SAFE),
-    entry(79, "sgal3_log", B::Element, B::Absent, A::Sgal3Tangent, LogAndAngle(First), OVERFLOWS),
-    entry(80, "sgal3_vee", B::Element, B::Absent, A::Sgal3Tangent, LogAndAngle(First), OVERFLOWS),
+    entry(79, "sgal3_log", B::Element, B::Absent, A::Sgal3Tangent, Log(First), OVERFLOWS),
+    entry(80, "sgal3_vee", B::Element, B::Absent, A::Sgal3Tangent, Log(First), OVERFLOWS),
     entry(81, "sgal3_act", B::Element, B::Vector, A::Vector, Untested, OVERFLOWS),
     entry(82, "sgal3_act_jacobian_vector", B::Element, B::Vector, MATRIX3, Untested, SAFE),
     entry(83, "sgal3_normalize", B::Element, B::Absent, A::Element, Untested, SAFE),
@@ -326,14 +325,14 @@ pub const CALLS: &[Call] = &[
     entry(101, "sgal3_right_plus_jacobian_self", B::Element, B::Sgal3Tangent, MATRIX10, Exp, OVERFLOWS),
     entry(102, "sgal3_left_plus", B::Element, B::Sgal3Tangent, A::Element, Exp, OVERFLOWS),
     entry(103, "sgal3_left_plus_jacobian_self", B::Element, B::Sgal3Tangent, MATRIX10, Exp, SAFE),
-    entry(104, "sgal3_right_minus", B::Element, B::Element, A::Sgal3Tangent, LogAndAngle(RightMinus), OVERFLOWS),
-    entry(105, "sgal3_left_minus", B::Element, B::Element, A::Sgal3Tangent, LogAndAngle(LeftMinus), OVERFLOWS),
+    entry(104, "sgal3_right_minus", B::Element, B::Element, A::Sgal3Tangent, Log(RightMinus), OVERFLOWS),
+    entry(105, "sgal3_left_minus", B::Element, B::Element, A::Sgal3Tangent, Log(LeftMinus), OVERFLOWS),
     entry(106, "sgal3_between", B::Element, B::Element, A::Element, Untested, OVERFLOWS),
     entry(107, "sgal3_between_jacobian_self", B::Element, B::Element, MATRIX10, Untested, OVERFLOWS),
     entry(108, "sgal3_between_jacobian_other", B::Element, B::Element, MATRIX10, Untested, SAFE),
     entry(109, "sgal3_plus", B::Element, B::Sgal3Tangent, A::Element, Exp, OVERFLOWS),
     entry(110, "sgal3_plus_jacobian_self", B::Element, B::Sgal3Tangent, MATRIX10, Exp, OVERFLOWS),
-    entry(111, "sgal3_minus", B::Element, B::Element, A::Sgal3Tangent, LogAndAngle(RightMinus), OVERFLOWS),
+    entry(111, "sgal3_minus", B::Element, B::Element, A::Sgal3Tangent, Log(RightMinus), OVERFLOWS),
     // ---- SGal(3): adjoints without their zeros
     entry(112, "sgal3_short_adjoint", B::Element, B::Absent, ADJOINT, Untested, OVERFLOWS),
     entry(113, "sgal3_short_compose_jacobian_self", B::Element, B::Element, ADJOINT, Untested, OVERFLOWS),
@@ -358,8 +357,8 @@ mod tests {
     #[test]
     fn which_calls_have_a_tolerance() {
         let count = |has: fn(&Call) -> bool| CALLS.iter().filter(|call| has(call)).count();
-        assert_eq!(count(Call::checks_norms), 73);
-        assert_eq!(count(Call::has_tolerance), 75);
+        assert_eq!(count(Call::checks_norms), 74);
+        assert_eq!(count(Call::has_tolerance), 76);
         assert_eq!(count(|call| call.has_tolerance() && call.has_index()), 0);
     }
 }

@@ -6,19 +6,20 @@ use crate::calls::{Answer, Block, CALLS, Call, Turn};
 use crate::format::{MOST_VALUES, Outcome, Request};
 use crate::random::{Random, nudge};
 use crate::refusals;
-use std::f64::consts::FRAC_PI_2;
+use crate::turning::LARGEST_OF_SERIES;
+use std::f64::consts::{FRAC_PI_2, PI};
 
 /// How many answers of a kind are kept for later inputs.
 const KEPT: usize = 64;
-/// The largest theta on one axis whose square is within the series' limit.
-const LARGEST_ON_AXIS: u64 = 0x3ee4_f8b5_88e3_68f0;
+/// The angle whose square is the limit of tangents and logarithms.
+const LARGEST: f64 = 3.0;
 
 /// Draws requests from a seed.
 pub struct Generator {
     random: Random,
     /// The tolerance that the norms of this request are drawn for.
     tolerance: f64,
-    /// Whether its call accepts turns up to a squared angle of 9.
+    /// Whether its call takes a tangent or a logarithm that turns up to a squared angle of 9, or any rotation's half-angle.
     turns: bool,
     elements: Kept<11>,
     rotations: Kept<4>,
@@ -80,14 +81,13 @@ impl Generator {
             true => self.permitted(),
             false => refusals::TOLERANCE,
         };
-        self.turns = call.turn == Turn::Exp;
+        self.turns = call.takes_sines();
         let extreme = self.random.once_in(4);
-        let small = call.turn != Turn::Untested && !self.random.once_in(4);
-        let near = matches!(call.turn, Turn::Log(_) | Turn::LogAndAngle(_))
-            && call.second != Block::Absent;
-        self.fill(call.first, small && !near, extreme, &mut request.first);
-        self.fill(call.second, small, extreme, &mut request.second);
-        if near && small || call.second == call.first && self.random.once_in(8) {
+        let aimed = self.turns && !self.random.once_in(4);
+        let pair = matches!(call.turn, Turn::Log(_)) && call.second != Block::Absent;
+        self.fill(call.first, aimed && !pair, extreme, &mut request.first);
+        self.fill(call.second, aimed, extreme, &mut request.second);
+        if pair && aimed || call.second == call.first && self.random.once_in(8) {
             self.bring_near(call, request);
         }
         if self.random.once_in(4) {
@@ -119,22 +119,22 @@ impl Generator {
         }
     }
 
-    /// A block that is accepted, or nearly. `small` asks for a turn within the limit or near it, `extreme` allows
-    /// values whose squares or sums overflow.
-    fn fill(&mut self, block: Block, small: bool, extreme: bool, to: &mut Vec<u64>) {
+    /// A block that is accepted, or nearly. `aimed` asks for a turn within the limit, or near that or the series' limit, `extreme`
+    /// allows values whose squares or sums overflow.
+    fn fill(&mut self, block: Block, aimed: bool, extreme: bool, to: &mut Vec<u64>) {
         match block {
             Block::Absent => {}
             Block::AnyElement | Block::AnyRotation if self.random.once_in(4) => {
                 to.extend((0..block.length()).map(|_| self.random.word()));
             }
-            Block::Element | Block::AnyElement => self.element(small, extreme, to),
+            Block::Element | Block::AnyElement => self.element(aimed, extreme, to),
             Block::Rotation | Block::AnyRotation => {
-                let quaternion = self.quaternion(small);
+                let quaternion = self.quaternion(aimed);
                 put(to, quaternion);
             }
-            Block::Sgal3Tangent => self.sgal3_tangent(small, extreme, to),
+            Block::Sgal3Tangent => self.sgal3_tangent(aimed, extreme, to),
             Block::So3Tangent => {
-                let theta = self.theta(small, extreme);
+                let theta = self.theta(aimed, extreme);
                 put(to, theta);
             }
             Block::Vector => {
@@ -173,13 +173,13 @@ impl Generator {
         }
     }
 
-    fn element(&mut self, small: bool, extreme: bool, to: &mut Vec<u64>) {
+    fn element(&mut self, aimed: bool, extreme: bool, to: &mut Vec<u64>) {
         if self.random.once_in(8) {
             to.extend(self.random.pick(&self.elements.values));
             return;
         }
         let translation = self.vector(extreme);
-        let quaternion = self.quaternion(small);
+        let quaternion = self.quaternion(aimed);
         let velocity = self.vector(extreme);
         let time = self.vector(extreme)[0];
         put(to, translation);
@@ -188,14 +188,14 @@ impl Generator {
         put(to, [time]);
     }
 
-    fn sgal3_tangent(&mut self, small: bool, extreme: bool, to: &mut Vec<u64>) {
+    fn sgal3_tangent(&mut self, aimed: bool, extreme: bool, to: &mut Vec<u64>) {
         if self.random.once_in(8) {
             to.extend(self.random.pick(&self.sgal3_tangents.values));
             return;
         }
         let rho = self.vector(extreme);
         let nu = self.vector(extreme);
-        let theta = self.theta(small, extreme);
+        let theta = self.theta(aimed, extreme);
         let s = self.vector(extreme)[0];
         put(to, rho);
         put(to, nu);
@@ -248,12 +248,12 @@ impl Generator {
         }
     }
 
-    fn theta(&mut self, small: bool, extreme: bool) -> [f64; 3] {
-        if self.turns && small && !self.random.once_in(4) {
+    fn theta(&mut self, aimed: bool, extreme: bool) -> [f64; 3] {
+        if self.turns && aimed && !self.random.once_in(4) {
             return self.turning_theta();
         }
         let direction = self.random.direction();
-        let kinds = match (small, extreme) {
+        let kinds = match (aimed, extreme) {
             (true, _) => 10,
             (_, false) => 13,
             (_, true) => 16,
@@ -265,7 +265,7 @@ impl Generator {
             3..=5 => 1e-5 * r.about_one(),
             6 => {
                 let axis = r.below(3);
-                let near = nudge(f64::from_bits(LARGEST_ON_AXIS), r.below(5) as i64 - 2);
+                let near = nudge(f64::from_bits(LARGEST_OF_SERIES), r.below(5) as i64 - 2);
                 let mut theta = [(); 3].map(|()| r.zero());
                 theta[axis] = r.sign(near);
                 return theta;
@@ -287,16 +287,15 @@ impl Generator {
 
     /// A theta whose squared angle is at most 9, or nearly: most of them outside the series.
     fn turning_theta(&mut self) -> [f64; 3] {
-        const MOST: f64 = 3.0;
         let direction = self.random.direction();
         let r = &mut self.random;
         let size = match r.below(8) {
-            0..=2 => MOST * r.unit(),
-            3 => r.with_exponent(-17, 1).abs().min(MOST),
-            4 => MOST * r.about_one(),
+            0..=2 => LARGEST * r.unit(),
+            3 => r.with_exponent(-17, 1).abs().min(LARGEST),
+            4 => LARGEST * r.about_one(),
             // a squared angle of 9 that no operation rounds
             5 | 6 => {
-                let mut theta = r.pick(&[[MOST, 0.0, 0.0], [1.0, 2.0, 2.0]]);
+                let mut theta = r.pick(&[[LARGEST, 0.0, 0.0], [1.0, 2.0, 2.0]]);
                 theta.rotate_left(r.below(3));
                 let theta = theta.map(|value| r.sign(value));
                 return r.near(theta);
@@ -306,9 +305,9 @@ impl Generator {
         r.near(direction.map(|value| value * size))
     }
 
-    fn quaternion(&mut self, small: bool) -> [f64; 4] {
-        if small {
-            return self.small_rotation();
+    fn quaternion(&mut self, aimed: bool) -> [f64; 4] {
+        if aimed {
+            return self.rotation();
         }
         let tolerance = self.tolerance;
         let r = &mut self.random;
@@ -342,7 +341,7 @@ impl Generator {
                 [0.6, 0.8, 0.0, 0.0],
                 [0.0, 0.0, 0.6, 0.8],
             ]),
-            9 | 10 => return self.small_rotation(),
+            9 | 10 => return self.rotation(),
             // one or two large values, the others tiny
             11 => {
                 let mut q = [(); 4].map(|()| r.tiny());
@@ -375,13 +374,18 @@ impl Generator {
         q
     }
 
-    /// A quaternion whose half angle, or whose angle, is at the limit, or within it.
+    /// A quaternion whose half angle, or whose angle, is at the limit of a series or within it; or one that turns by any angle up to half a turn, often by
+    /// the limit of logarithms.
+    fn rotation(&mut self) -> [f64; 4] {
+        match self.random.below(8) {
+            0..=2 => self.small_rotation(),
+            _ => self.turning_rotation(),
+        }
+    }
+
     fn small_rotation(&mut self) -> [f64; 4] {
-        let direction = self.random.direction();
-        let tolerance = self.tolerance;
         let r = &mut self.random;
-        let kind = r.below(8);
-        let half = match kind {
+        let half = match r.below(8) {
             0 | 1 => 1e-5 * r.about_one(),
             2 | 3 => 0.5e-5 * r.about_one(),
             4 | 5 => 0.5e-5 * r.unit(),
@@ -389,14 +393,42 @@ impl Generator {
             _ => 0.0,
         };
         let w = (1.0 - half * half).sqrt();
-        let [x, y, z] = direction.map(|value| value * half);
+        // Nearly 1, and 1 itself.
+        let scale = if r.once_in(4) { 1.0 / w } else { 1.0 };
+        self.rotation_of(w * scale, half * scale)
+    }
+
+    fn turning_rotation(&mut self) -> [f64; 4] {
+        let r = &mut self.random;
+        let angle = match r.below(16) {
+            0..=4 => LARGEST * r.unit(),
+            5 | 6 => r.with_exponent(-17, 1).abs().min(LARGEST),
+            7 => LARGEST * r.about_one(),
+            8..=10 => nudge(LARGEST, r.below(9) as i64 - 4),
+            11 => LARGEST + (PI - LARGEST) * r.unit(),
+            12 => PI - r.with_exponent(-60, -3).abs(),
+            13 => {
+                let w = r.tiny().abs();
+                let w = r.pick(&[0.0, 5e-324, w]);
+                return self.rotation_of(w, 1.0);
+            }
+            _ => return r.pick(&self.rotations.values).map(f64::from_bits),
+        };
+        let (sine, cosine) = (angle / 2.0).sin_cos();
+        self.rotation_of(cosine, sine)
+    }
+
+    /// The rotation about any axis whose half angle has this cosine and sine, or a neighbour of it. Of the two quaternions that it has either is drawn.
+    fn rotation_of(&mut self, cosine: f64, sine: f64) -> [f64; 4] {
+        let tolerance = self.tolerance;
+        let r = &mut self.random;
+        let [x, y, z] = r.direction().map(|value| value * sine);
         // Normalising undoes the scale, and rounds.
         let scale = match r.below(8) {
-            0..=2 => 1.0,
-            3 | 4 => 1.0 / w,
+            0..=4 => 1.0,
             _ => 1.0 + r.signed() * tolerance,
         };
-        let mut q = [w, x, y, z].map(|value| value * scale);
+        let mut q = [cosine, x, y, z].map(|value| value * scale);
         if r.once_in(4) {
             q = unit(q);
         }
@@ -410,7 +442,7 @@ impl Generator {
         q
     }
 
-    /// Makes the second block's rotation nearly the first's, so that minus stays near the limit; or the whole block the same.
+    /// Makes the second block's rotation one that a turn leads to from the first's, so that minus has logarithms of every size; or the whole block the same.
     fn bring_near(&mut self, call: &Call, request: &mut Request) {
         let (Some(at), Some(_)) = (call.first.quaternion(), call.second.quaternion()) else {
             return;
@@ -419,12 +451,12 @@ impl Generator {
             return;
         };
         let first = first.map(f64::from_bits);
-        let small = self.small_rotation();
-        let second = match self.random.below(8) {
+        let turn = self.rotation();
+        let second = match self.random.below(16) {
             0 => first,
             1 => first.map(|value| -value),
-            2..=4 => product(first, small),
-            _ => product(small, first),
+            2..=8 => product(first, turn),
+            _ => product(turn, first),
         };
         request.second[at..at + 4].copy_from_slice(&second.map(f64::to_bits));
         if self.random.once_in(16) {
@@ -641,7 +673,7 @@ pub(crate) fn unit(q: [f64; 4]) -> [f64; 4] {
 }
 
 /// Hamilton's product, only to find rotations that are near each other: its order doesn't matter.
-fn product([a, b, c, d]: [f64; 4], [w, x, y, z]: [f64; 4]) -> [f64; 4] {
+pub(crate) fn product([a, b, c, d]: [f64; 4], [w, x, y, z]: [f64; 4]) -> [f64; 4] {
     [
         a * w - b * x - c * y - d * z,
         a * x + b * w + c * z - d * y,

@@ -14,10 +14,8 @@ pub const LONGEST_CHAIN: usize = 4096;
 pub const TOLERANCE: f64 = 1e-6;
 /// The largest tolerance that a caller may choose.
 pub const MOST_TOLERANCE: f64 = 1.0 / 1024.0;
-/// The largest squared angle of the series branch, which the calls keep to that take a logarithm or the inverse of a Jacobian.
-pub const SERIES_LIMIT: f64 = 1e-10;
-/// The largest squared angle of exp, plus and the other Jacobians of tangents.
-pub const EXP_LIMIT: f64 = 9.0;
+/// The largest squared angle of a tangent that exp, plus or a Jacobian is given, and of a logarithm.
+pub const TURN_LIMIT: f64 = 9.0;
 /// The largest magnitude of a number of which sine or cosine is taken.
 pub const NUMBER_LIMIT: f64 = 4.0;
 

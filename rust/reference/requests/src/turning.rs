@@ -1,14 +1,22 @@
-//! Requests whose turns lie in a band and whose values are of magnitude at most 16, for the calls that take sines: those
-//! whose tangents may turn up to a squared angle of 9, and sine and cosine. None of them is refused.
+//! Requests whose turns lie in a band and whose values are of magnitude at most 16, for the calls that take sines or a
+//! half-angle: those with a tangent that turns up to a squared angle of 9, or with a logarithm that does; sine and cosine;
+//! and the half-angle. None of them is refused.
 
-use crate::calls::{Block, CALLS, Call};
+use crate::calls::{Block, CALLS, Call, HALF_ANGLE, Of, Turn};
 use crate::format::Request;
-use crate::generators::unit;
+use crate::generators::{product, unit};
 use crate::random::{Random, nudge};
-use crate::refusals::{self, TOLERANCE};
+use crate::refusals::{self, TOLERANCE, TURN_LIMIT};
 
 /// The largest magnitude of a value.
 pub const MOST_VALUE: f64 = 16.0;
+/// The largest squared angle for which docs/src takes a series, and the largest squared sine of a half angle.
+pub const SERIES_LIMIT: f64 = 1e-10;
+/// The largest number whose square is within that.
+pub const LARGEST_OF_SERIES: u64 = 0x3ee4_f8b5_88e3_68f0;
+/// How near to the limit no squared angle of a logarithm is drawn. Two that differ by roundings may lie on either side of it, and only one of them is
+/// refused then.
+const BESIDE_LIMIT: f64 = 1.0 / (1u64 << 30) as f64;
 
 /// Sizes of turns, or of numbers of which sine or cosine is taken.
 #[derive(Clone, Copy, Debug, PartialEq)]
@@ -28,18 +36,48 @@ impl Band {
     }
 }
 
-/// The calls that take sines.
+/// The calls that take sines or a half-angle.
 pub fn calls() -> impl Iterator<Item = &'static Call> {
     CALLS.iter().filter(|call| call.takes_sines())
 }
 
-/// The square of the turn's angle, or of the number, of a request for one of these calls; none, where a length is wrong.
+/// Whether a call reads how far a rotation turns: that of a block, or the difference of two.
+fn reads_rotation(call: &Call) -> bool {
+    matches!(call.turn, Turn::Log(_)) || call.number == HALF_ANGLE
+}
+
+/// The square of the turn's angle, or of the number, of a request for one of these calls; none, where a length is wrong. That of a rotation is found by
+/// the machine's atan2, so it may be some roundings away from what is tested.
 pub fn square(request: &Request) -> Option<f64> {
-    let [x, y, z] = match request.call().first {
+    let call = request.call();
+    if reads_rotation(call) {
+        let to = quaternion_of(call.first, &request.first)?;
+        let from = match call.second {
+            Block::Absent => IDENTITY,
+            second => quaternion_of(second, &request.second)?,
+        };
+        return Some(angle(from, to).powi(2));
+    }
+    let [x, y, z] = match call.first {
         Block::Number => [f64::from_bits(*request.first.first()?), 0.0, 0.0],
         _ => request.theta()?,
     };
     Some(x * x + y * y + z * z)
+}
+
+const IDENTITY: [f64; 4] = [1.0, 0.0, 0.0, 0.0];
+
+/// None in a block of a wrong length.
+fn quaternion_of(block: Block, values: &[u64]) -> Option<[f64; 4]> {
+    let at = block.quaternion()?;
+    let bits = *values[at.min(values.len())..].first_chunk::<4>()?;
+    (values.len() == block.length()).then(|| bits.map(f64::from_bits))
+}
+
+/// Of the turn that leads from one quaternion to the other, from 0 to π: a quaternion and its negative are the same rotation. No norm matters.
+fn angle([w, x, y, z]: [f64; 4], to: [f64; 4]) -> f64 {
+    let [w, x, y, z] = product([w, -x, -y, -z], to);
+    2.0 * refusals::norm([0.0, x, y, z]).atan2(w.abs())
 }
 
 /// Draws requests from a seed.
@@ -57,26 +95,39 @@ impl Turning {
             true => TOLERANCE.to_bits(),
             false => 0,
         };
+        let quaternions = self.quaternions(call, band);
         let blocks = [
             (call.first, &mut request.first),
             (call.second, &mut request.second),
         ];
-        for (block, to) in blocks {
+        for ((block, to), quaternion) in blocks.into_iter().zip(quaternions) {
+            let values = self.block(block, quaternion, band);
             to.clear();
-            to.extend(self.block(block, band).iter().map(|value| value.to_bits()));
+            to.extend(values.iter().map(|value| value.to_bits()));
         }
     }
 
-    fn block(&mut self, block: Block, band: Band) -> Vec<f64> {
+    /// Those of the two blocks. Where the call reads how far a rotation turns, the first is so far from the second, or from no turn.
+    fn quaternions(&mut self, call: &Call, band: Band) -> [[f64; 4]; 2] {
+        let second = self.quaternion();
+        let first = match call.turn {
+            _ if !reads_rotation(call) => self.quaternion(),
+            Turn::Log(Of::RightMinus | Of::LeftMinus) => self.turned(second, band),
+            _ => self.turned(IDENTITY, band),
+        };
+        [first, second]
+    }
+
+    fn block(&mut self, block: Block, quaternion: [f64; 4], band: Band) -> Vec<f64> {
         match block {
             Block::Absent => Vec::new(),
             Block::Number => vec![self.number(band)],
-            Block::Rotation => self.quaternion().to_vec(),
+            Block::Rotation => quaternion.to_vec(),
             Block::So3Tangent => self.theta(band).to_vec(),
             Block::Element => {
-                let (translation, rotation) = (self.vector(), self.quaternion());
-                let (velocity, time) = (self.vector(), self.value());
-                [&translation[..], &rotation, &velocity, &[time]].concat()
+                let (translation, velocity) = (self.vector(), self.vector());
+                let time = self.value();
+                [&translation[..], &quaternion, &velocity, &[time]].concat()
             }
             Block::Sgal3Tangent => {
                 let (rho, nu) = (self.vector(), self.vector());
@@ -101,20 +152,40 @@ impl Turning {
         }
     }
 
-    /// The norm is within 1e-6 of 1 as it is computed.
     fn quaternion(&mut self) -> [f64; 4] {
-        let r = &mut self.0;
         loop {
-            let scale = match r.below(4) {
-                0 => 1.0 + r.sign(TOLERANCE),
-                1 => 1.0 + r.signed() * TOLERANCE,
-                _ => 1.0,
-            };
-            let q = unit([(); 4].map(|()| r.signed())).map(|value| value * scale);
-            if (refusals::norm(q) - 1.0).abs() <= TOLERANCE {
+            let q = unit([(); 4].map(|()| self.0.signed()));
+            if let Some(q) = self.scaled(q) {
                 return q;
             }
         }
+    }
+
+    /// One that a turn of the band leads to, and of the two that are the same rotation either.
+    fn turned(&mut self, from: [f64; 4], band: Band) -> [f64; 4] {
+        loop {
+            let (sine, cosine) = (self.size(band) / 2.0).sin_cos();
+            let [x, y, z] = self.0.direction().map(|value| value * sine);
+            let sign = self.0.sign(1.0);
+            let to = product(from, [cosine, x, y, z]).map(|value| value * sign);
+            let Some(q) = self.scaled(to) else { continue };
+            let square = angle(from, q).powi(2);
+            if band.holds(square) && (square - TURN_LIMIT).abs() > BESIDE_LIMIT {
+                return q;
+            }
+        }
+    }
+
+    /// A quaternion of norm 1, or of one up to 1e-6 from it; none, where it is further from it as it is computed.
+    fn scaled(&mut self, q: [f64; 4]) -> Option<[f64; 4]> {
+        let r = &mut self.0;
+        let scale = match r.below(4) {
+            0 => 1.0 + r.sign(TOLERANCE),
+            1 => 1.0 + r.signed() * TOLERANCE,
+            _ => 1.0,
+        };
+        let q = q.map(|value| value * scale);
+        ((refusals::norm(q) - 1.0).abs() <= TOLERANCE).then_some(q)
     }
 
     fn theta(&mut self, band: Band) -> [f64; 3] {
@@ -167,6 +238,53 @@ impl Random {
 #[cfg(test)]
 mod tests {
     use super::*;
+    use crate::bench_list;
+    use std::f64::consts::PI;
+
+    #[test]
+    fn the_largest_of_the_series() {
+        let largest = f64::from_bits(LARGEST_OF_SERIES);
+        assert!(largest * largest <= SERIES_LIMIT);
+        assert!(largest.next_up() * largest.next_up() > SERIES_LIMIT);
+    }
+
+    #[test]
+    fn angles() {
+        let (s, c) = 0.5f64.sin_cos();
+        for to in [[c, 0.0, s, 0.0], [-c, 0.0, -s, 0.0], [c, 0.0, 0.0, -s]] {
+            let twice = to.map(|value| value * 2.0);
+            assert!((angle(IDENTITY, to) - 1.0).abs() < 1e-15);
+            assert!((angle(to, IDENTITY) - 1.0).abs() < 1e-15);
+            assert!((angle(IDENTITY, twice) - 1.0).abs() < 1e-15);
+            assert!((angle([0.0, 1.0, 0.0, 0.0], to) - PI).abs() < 1e-15);
+            assert!(angle(to, twice) < 1e-15);
+        }
+        assert_eq!(angle(IDENTITY, [-0.0, 0.0, 1.0, 0.0]), PI);
+    }
+
+    /// Of minus it is that of the difference.
+    #[test]
+    fn squares_of_requests() {
+        let (s, c) = 0.5f64.sin_cos();
+        let one = [1.0, 0.0, 0.0, 0.0];
+        let turned = [-c, s, 0.0, 0.0];
+        let element = |q: [f64; 4]| [&[1.0, 2.0, 3.0], &q[..], &[4.0, 5.0, 6.0, 7.0]].concat();
+        for (name, first, second) in [
+            ("so3_log", turned.to_vec(), vec![]),
+            ("so3_half_angle", turned.to_vec(), vec![]),
+            ("so3_minus", turned.to_vec(), one.to_vec()),
+            ("so3_left_minus", one.to_vec(), turned.to_vec()),
+            ("sgal3_log", element(turned), vec![]),
+            ("sgal3_right_minus", element(turned), element(one)),
+            ("so3_left_jacobian_inv", vec![0.0, 0.6, 0.8], vec![]),
+        ] {
+            let mut request = bench_list::request(name, &first, &second);
+            let found = square(&request).expect("a turn");
+            assert!((found - 1.0).abs() < 1e-14, "{name}");
+            request.first.pop();
+            assert_eq!(square(&request), None, "{name}");
+        }
+    }
 
     #[test]
     fn cosines_in_the_middle() {
@@ -194,12 +312,16 @@ mod tests {
             Band::new(0.0625, 3.0),
             Band::new(1e-5, 2e-5),
             Band::new(0.0, 3.0),
+            Band::new(0.0, PI),
         ] {
             for call in calls() {
                 for _ in 0..1000 {
                     turning.draw_for(call, band, &mut request);
                     assert_eq!(refusals::of_blocks(call, &request), None);
-                    assert!(square(&request).is_some_and(|square| band.holds(square)));
+                    let square = square(&request).expect("there is a turn");
+                    assert!(band.holds(square));
+                    let beside = (square - TURN_LIMIT).abs() <= BESIDE_LIMIT;
+                    assert!(!reads_rotation(call) || !beside);
                     let values = request.first.iter().chain(&request.second);
                     for bits in values {
                         assert!(f64::from_bits(*bits).abs() <= MOST_VALUE);
@@ -213,8 +335,9 @@ mod tests {
     fn which_calls_take_sines() {
         let numbers: Vec<u64> = calls().map(|call| call.number).collect();
         let expected = [
-            26, 27, 28, 29, 40, 41, 42, 43, 44, 45, 55, 56, 57, 61, 62, 85, 100, 101, 102, 103,
-            109, 110, 114,
+            18, 19, 20, 26, 27, 28, 29, 30, 31, 40, 41, 42, 43, 44, 45, 46, 47, 48, 49, 50, 51, 55,
+            56, 57, 58, 59, 60, 61, 62, 63, 79, 80, 85, 100, 101, 102, 103, 104, 105, 109, 110,
+            111, 114,
         ];
         assert_eq!(numbers, expected);
     }

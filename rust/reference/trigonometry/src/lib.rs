@@ -1,8 +1,12 @@
-//! Sine and cosine as crates/trigonometry/specs/Sines.antt defines them, once more, in plain f64 arithmetic, for docs/src to be compiled with. It
-//! shares nothing with the proved crates: the coefficients stand here as patterns, as they do in the definition.
+//! Sine and cosine as crates/trigonometry/specs/Sines.antt defines them, and the half-angle, once more, in plain f64 arithmetic, for docs/src to be
+//! compiled with. It shares nothing with the proved crates: the coefficients stand here as patterns, as they do in the definitions.
 //!
-//! Both are Taylor sums through the 31st power. The terms that are subtracted and those that are added are summed apart, each by Horner's scheme in
+//! Sine and cosine are Taylor sums through the 31st power. The terms that are subtracted and those that are added are summed apart, each by Horner's scheme in
 //! the fourth power of the argument.
+
+mod half_angle;
+
+pub use half_angle::half_angle;
 
 /// The nearest to 1/3!, 1/7!, 1/11! .. 1/31!.
 const SINE_MINUS: [u64; 8] = [

@@ -1,16 +1,16 @@
 //! agree PROGRAM [--seed N] [--count N] [--small]
 //!
-//! Starts PROGRAM as `compare` does, asks it the calls that take sines, with turns from 1/16 to 3 and values up to 16,
-//! and measures how far its answers lie from docs/src's own over the machine's sine and cosine: each value has to be
-//! within 2^-24, and sine and cosine themselves, of numbers up to 4, within 2^-44. A table has how many requests each
-//! call got (a million in all, if nothing is said), and the largest distance that was met.
+//! Starts PROGRAM as `compare` does, asks it the calls that take sines or a half-angle, with turns from 1/16 to 3 and
+//! values up to 16, and measures how far its answers lie from docs/src's own over the machine's sine, cosine and atan2:
+//! each value has to be within 2^-24, and sine and cosine themselves, of numbers up to 4, and the half-angle, of any
+//! rotation, within 2^-44. A table has how many requests each call got (a million in all, if nothing is said), and the
+//! largest distance that was met.
 //! With --small smaller turns are measured, of which no distance is asked: a table has the largest ones by the size of
 //! the turn.
 //! Exit status: 0, all within their bounds; 1, one is not, or PROGRAM refuses, ended early or wrote too much; 2, a wrong command.
 
-use compare::distances::{Agreement, Distances, NUMBERS, SMALL, SmallTurns, TURNS};
+use compare::distances::{Agreement, Distances, SMALL, SmallTurns, band};
 use compare::program;
-use requests::calls::Turn;
 use requests::turning::{self, Band, Turning};
 use requests::{Call, Outcome, Request};
 use std::process::ExitCode;
@@ -90,10 +90,6 @@ fn measured(
 }
 
 fn turns() -> Vec<(&'static Call, Band)> {
-    let band = |call: &Call| match call.turn {
-        Turn::Number => NUMBERS,
-        _ => TURNS,
-    };
     turning::calls().map(|call| (call, band(call))).collect()
 }
 
@@ -103,7 +99,8 @@ fn small_turns() -> Vec<(&'static Call, Band)> {
         .collect()
 }
 
-/// So many random requests for these calls in turn, with the outcomes of docs/src over the machine's sine and cosine.
+/// So many random requests for these calls in turn, with the outcomes of docs/src over the machine's sine, cosine and
+/// atan2.
 fn drawing(
     seed: u64,
     count: u64,

@@ -21,7 +21,7 @@ const ACCEPTED: u64 = 26;
 const REFUSED: u64 = 6;
 /// And how many at the least that are accepted with norms that 1e-6 refuses.
 const WIDE: u64 = 3;
-/// Of a call that takes sines, how many at the least are accepted with a turn, or a number, above 1.
+/// Of a call that takes sines or a half-angle, how many at the least are accepted with a turn, or a number, above 1.
 const LARGE: u64 = 8;
 /// Draws for one call before it is given up.
 const DRAWS: u32 = 200_000;

@@ -1,0 +1,9 @@
+pub mod Halves
+pub mod Rise
+pub mod Sides
+pub mod Turned
+pub mod Computed
+pub mod Levels
+pub mod Angles
+pub mod Accuracy
+pub mod Worked

@@ -1,0 +1,2 @@
+pub mod HalfAngles
+pub mod Worked
