@@ -3,17 +3,20 @@
 # make lib          the static library and its header, in target/lib; TARGET=.. for another processor (targets.mk lists them), in
 #                   target/lib/TARGET
 # make install      header, archive and pkg-config file, in PREFIX=.., /usr/local unless another is named; TARGET=.. as above
-# make try          the programs with no proof, on the interpreter and compiled with checks; TRIES=.. times on requests drawn at
+# make try          the programs before any proof is checked, on the interpreter and compiled with checks; TRIES=.. times on requests drawn at
 #                   random, beside the Rust
 # make compare      every call, the C entries, the square root and the words of eight bytes beside Rust, on fresh random requests: SEED=..;
 #                   for the calls COUNT=.. or SECONDS=.., the entries get two million, the root one, the words 2^20 and 2^17 of each of
 #                   seven kinds; and `compare-turns`, a million requests with turns from 1/16 to 3 rad: each value within 2^-24 of the Rust source
-#                   over the machine's sines and atan2; APEX_SRC=.. names the folder of the Rust source, if it is not ../shared
+#                   over the machine's sines and atan2; APEX_SRC=.. names the folder of the Rust source
+#                   (sgal3.rs and its neighbours), if it is not the one in ../shared
 # make compare-small-turns  how far they are with smaller turns, on COUNT=.. requests: a table, no test
 # make bench        times: the square root beside the machine's, sine, cosine and half-angle beside libm's, and the calls beside the Rust source
 #                   and plain Rust
 # make bench-turns  times: the C entries at 1e-6 beside those of another archive, OLD=.., by turns in one process
 # make stack        how many bytes of stack the C entries take, and those that are there for timing alone
+# make edits        the wrong programs that the prover has to refuse, with what each stands for; after `make test` also with what refused it
+# make calls        the calls, each with its number, its blocks, its answer and the numbers that it can be refused with
 # make vectors      the stored vectors of the square root anew
 # make sample       the stored requests of the program `conformance` and the reference's answers anew
 # make cases        the stored inputs of the programs `chain` and `chain_cases`, and what they have to print, anew
@@ -58,9 +61,9 @@ WITH_SOURCE = if ! [ -d "$$APEX_SRC" ]; then $(call WITHOUT,Rust source (APEX_SR
 # Two parts at a time where both are only to pass or fail, and one after the other where times are measured.
 TWO_AT_A_TIME = $(MAKE) --no-print-directory -j2 --output-sync=target IN_ORDER=
 
-.PHONY: run test test-tools test-sources test-built try try-requests toolchain-check readme-check test-rust test-c test-install install install-files \
+.PHONY: run test test-tools test-sources test-built try try-requests toolchain-check readme-check edits-check test-rust test-c test-install install install-files \
 	vectors-check cases-check sample-check test-reference compare compare-sqrt compare-words compare-calls compare-turns compare-small-turns \
-	compare-entries valgrind-words valgrind-entries conformance bench bench-float bench-handset bench-turns stack sgal3-lib vectors cases sample \
+	compare-entries valgrind-words valgrind-entries conformance bench bench-float bench-handset bench-turns stack sgal3-lib edits calls vectors cases sample \
 	float-lib words-lib
 IN_ORDER = yes
 ifdef IN_ORDER
@@ -84,7 +87,7 @@ test: toolchain-check test-tools
 	if grep -q '^rt: ok.*, [0-9]* bad' target/rt-ci.log; then echo "FAILED: bad must-fail edits, as told above"; exit 1; fi && \
 	$(TWO_AT_A_TIME) test-built COUNT=5000000 PROVED="programs $$libraries" && tail -n 1 target/rt-ci.log
 
-test-sources: readme-check try vectors-check cases-check sample-check test-reference
+test-sources: readme-check edits-check try vectors-check cases-check sample-check test-reference
 test-built: valgrind-words valgrind-entries compare test-rust test-c test-install test-targets
 
 # Root installs what the tests want and is missing, in CI or with INSTALL=yes.
@@ -146,6 +149,10 @@ install-files:
 	@install -m 644 $(LIB_FOLDER)/libhandset.a "$(DESTDIR)$(PREFIX)/lib/"
 	@printf '%s\n' 'prefix=$(PREFIX)' 'Name: handset' 'Description: Galilean motion steps on byte blocks' 'Version: $(VERSION)' \
 	    'Cflags: -I$${prefix}/include' 'Libs: -L$${prefix}/lib -lhandset' > "$(DESTDIR)$(PREFIX)/lib/pkgconfig/handset.pc"
+
+# Each wrong program says what it stands for.
+edits-check:
+	@$(call QUIETLY,tools/edits)
 
 vectors-check:
 	@$(call WITH_CARGO,mkdir -p target && $(CARGO) run --release $(FLOAT) --bin sqrt_vectors > target/vectors && \
@@ -246,6 +253,12 @@ stack: lib sgal3-lib
 
 sgal3-lib: toolchain-check
 	@$(call STATIC_LIBRARY,sgal3_export)
+
+edits:
+	@tools/edits $(wildcard target/rt-ci.log)
+
+calls:
+	@$(CARGO) run $(REFERENCE) --package requests
 
 vectors:
 	@$(CARGO) run --release $(FLOAT) --bin sqrt_vectors > $(VECTORS)

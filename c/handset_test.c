@@ -1,6 +1,7 @@
 /* The C entries over the header: worked examples, refusals, tolerances, and the story of set 17.
  * Returns 0, or prints what failed and returns 1. */
 #include "handset.h"
+#include "patterns.h"
 
 #include <float.h>
 #include <stdio.h>
@@ -26,18 +27,6 @@ static void check(int holds, const char *condition, int line) {
         printf("handset_test.c:%d: not so: %s\n", line, condition);
         failures += 1;
     }
-}
-
-static uint64_t pattern(double value) {
-    uint64_t bits;
-    memcpy(&bits, &value, sizeof bits);
-    return bits;
-}
-
-static double of_pattern(uint64_t bits) {
-    double value;
-    memcpy(&value, &bits, sizeof value);
-    return value;
 }
 
 /* The neighbours of a number: further from zero, and nearer to it. */

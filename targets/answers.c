@@ -7,6 +7,7 @@
  * makes so many calls of each entry. Returns 0, or 1 where an entry never returns one of the
  * numbers that it can return, or returns another. */
 #include "handset.h"
+#include "../c/patterns.h"
 
 #include <inttypes.h>
 #include <stdio.h>
@@ -95,18 +96,6 @@ static uint64_t special(void) {
         0x7ff0000000000001, 0x7ff7ffffffffffff, 0x7ff8000000000000, 0x7fffffffffffffff};
     const uint64_t sign = drawn() & SIGN;
     return sign | patterns[below(sizeof patterns / sizeof patterns[0])];
-}
-
-static uint64_t pattern(double value) {
-    uint64_t bits;
-    memcpy(&bits, &value, sizeof bits);
-    return bits;
-}
-
-static double of_pattern(uint64_t bits) {
-    double value;
-    memcpy(&value, &bits, sizeof value);
-    return value;
 }
 
 static uint64_t quotient(int64_t a, int64_t b) { return pattern((double)a / (double)b); }

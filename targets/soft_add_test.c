@@ -4,10 +4,11 @@
  *     soft_add_test PAIRS
  *
  * Built for ARM without instructions for doubles it shows where libgcc rounds wrong. */
+#include "../c/patterns.h"
+
 #include <inttypes.h>
 #include <stdio.h>
 #include <stdlib.h>
-#include <string.h>
 
 unsigned long long handset_dadd(unsigned long long a, unsigned long long b);
 unsigned long long handset_dsub(unsigned long long a, unsigned long long b);
@@ -25,18 +26,6 @@ static uint64_t drawn(void) {
 }
 
 static uint32_t below(uint32_t bound) { return (uint32_t)((drawn() >> 32) * bound >> 32); }
-
-static double value(uint64_t pattern) {
-    double number;
-    memcpy(&number, &pattern, sizeof number);
-    return number;
-}
-
-static uint64_t pattern(double number) {
-    uint64_t bits;
-    memcpy(&bits, &number, sizeof bits);
-    return bits;
-}
 
 /* A fraction at random, or one with long runs of zeros and ones: these meet the ties. */
 static uint64_t fraction(void) {
@@ -70,7 +59,7 @@ static int near(int exponent) {
 }
 
 static void compare(char sign, uint64_t a, uint64_t b, uint64_t ours, double machine) {
-    const int both_nan = machine != machine && value(ours) != value(ours);
+    const int both_nan = machine != machine && of_pattern(ours) != of_pattern(ours);
     if (!both_nan && ours != pattern(machine)) {
         differing += 1;
         if (differing <= SHOWN) {
@@ -87,8 +76,8 @@ int main(int count, char **words) {
         const int exponent = (int)below(below(8) == 0 ? 3 : EXPONENTS);
         const uint64_t a = number(exponent);
         const uint64_t b = number(near(exponent));
-        compare('+', a, b, handset_dadd(a, b), value(a) + value(b));
-        compare('-', a, b, handset_dsub(a, b), value(a) - value(b));
+        compare('+', a, b, handset_dadd(a, b), of_pattern(a) + of_pattern(b));
+        compare('-', a, b, handset_dsub(a, b), of_pattern(a) - of_pattern(b));
     }
     printf("soft_add_test: %" PRIu64 " pairs, %" PRIu64 " times not as the machine adds\n", pairs,
            differing);

@@ -1,4 +1,4 @@
-// The lines of the scope's bench list that are not marked as proved, run: the number of each call's outcome, 0 for an answer;
+// The lines on exp, log, norms and is_valid of the scope's bench list that are not marked to be proved, run: the number of each call's outcome, 0 for an answer;
 // of is_valid its answer as well, 1 for yes and 0 for no.
 #![tactic(auto)]
 
@@ -30,58 +30,40 @@ fn yes(answer: Result<bool, Refusal>) -> u32
 }
 
 fn main(rt: HostRuntime) -> io::Result<()> {
+    let tolerance = checks::quaternion_norm_tolerance();
     let theta = [1.52587890625e-5, 0.0, 0.0];
-    let n = number(manifold_blocks::exp::<so3::Tangent>(&theta));
+    let n = number(manifold_calls::exp::<so3::Tangent>(&theta));
     println!(rt; "SO3 exp of theta (2^-16, 0, 0): {n}")?;
-    let tangent = [
-        0.0,
-        0.0,
-        0.0,
-        0.0,
-        0.0,
-        0.0,
-        1.52587890625e-5,
-        0.0,
-        0.0,
-        0.0,
-    ];
-    let n = number(manifold_blocks::exp::<sgal3::Tangent>(&tangent));
+    let mut tangent = [0.0; sgal3::DOF];
+    tangent[6] = 1.52587890625e-5;
+    let n = number(manifold_calls::exp::<sgal3::Tangent>(&tangent));
     println!(rt; "SGal3 exp of theta (2^-16, 0, 0): {n}")?;
     let near = [1.0, 7.62939453125e-6, 0.0, 0.0];
-    let n = number(manifold_blocks::log::<so3::Element>(&near, 1e-6));
+    let n = number(manifold_calls::log::<so3::Element>(&near, tolerance));
     println!(rt; "SO3 log of (1, 2^-17, 0, 0): {n}")?;
-    let turned = [
-        0.0,
-        0.0,
-        0.0,
-        1.0,
-        7.62939453125e-6,
-        0.0,
-        0.0,
-        0.0,
-        0.0,
-        0.0,
-        0.0,
-    ];
-    let n = number(manifold_blocks::log::<sgal3::Element>(&turned, 1e-6));
+    let mut turned = [0.0; sgal3::REP_SIZE];
+    turned[3] = 1.0;
+    turned[4] = 7.62939453125e-6;
+    let n = number(manifold_calls::log::<sgal3::Element>(&turned, tolerance));
     println!(rt; "SGal3 log of (1, 2^-17, 0, 0): {n}")?;
-    let n = number(sgal3_composition::inverse(&[0.0; 11], 1e-6));
+    let n = number(sgal3_calls::composition::inverse(&[0.0; sgal3::REP_SIZE], tolerance));
     println!(rt; "inverse, all four zero: {n}")?;
-    let nan = 0.0 / 0.0;
-    let bad = [0.0, 0.0, 0.0, 2.0, 0.0, 0.0, 0.0, 0.0, 0.0, 0.0, nan];
-    let n = number(sgal3_composition::inverse(&bad, 1e-6));
+    let mut two = [0.0; sgal3::REP_SIZE];
+    two[3] = 2.0;
+    let mut bad = two;
+    bad[10] = 0.0 / 0.0;
+    let n = number(sgal3_calls::composition::inverse(&bad, tolerance));
     println!(rt; "inverse, NaN time and norm 2: {n}")?;
-    let two = [0.0, 0.0, 0.0, 2.0, 0.0, 0.0, 0.0, 0.0, 0.0, 0.0, 0.0];
-    let valid = manifold_blocks::is_valid::<sgal3::Element>(&two, 1e-6);
+    let valid = manifold_calls::is_valid::<sgal3::Element>(&two, tolerance);
     let n = number(valid);
     let y = yes(valid);
     println!(rt; "SGal3 is_valid of w = 2 with 1e-6: {n} {y}")?;
-    let valid = manifold_blocks::is_valid::<sgal3::Element>(&two, 0.0);
+    let valid = manifold_calls::is_valid::<sgal3::Element>(&two, 0.0);
     let n = number(valid);
     let y = yes(valid);
     println!(rt; "SGal3 is_valid of w = 2 with 0: {n} {y}")?;
     let double = [2.0, 0.0, 0.0, 0.0];
-    let valid = manifold_blocks::is_valid::<so3::Element>(&double, 1e-6);
+    let valid = manifold_calls::is_valid::<so3::Element>(&double, tolerance);
     let n = number(valid);
     let y = yes(valid);
     println!(rt; "SO3 is_valid of w = 2 with 1e-6: {n} {y}")

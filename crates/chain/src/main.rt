@@ -1,6 +1,7 @@
 // The chain of the blocks on standard input.
 #![tactic(auto)]
 
+use chain_run::Chain;
 use std::env::FillError;
 use std::rt::Env;
 
@@ -10,16 +11,5 @@ fn main(rt: HostRuntime) {
         let _ = eprintln!(rt; "usage: chain < FILE, a file of element blocks of 88 bytes");
         return;
     }
-    let mut space = [0u8; 65473];
-    let mut page = [0u8; 220];
-    match chain_run::read_report(&mut rt.stdin(), &mut space, &mut page) {
-        Ok(report) => {
-            if let Err(e) = rt.write_all(&page[..report.put]) {
-                let _ = eprintln!(rt; "standard output: {e}");
-            }
-        }
-        Err(e) => {
-            let _ = eprintln!(rt; "standard input: {e}");
-        }
-    }
+    report_run::run::<Chain, _, _, _>(&rt, &mut rt.stdin(), "standard input");
 }

@@ -1,7 +1,7 @@
-// The chain of each file that is named as an argument: its name, and the report. A function for this program and `chain` would take the buffers, the runtime
-// and the name for a message, and be no shorter.
+// The chain of each file that is named as an argument: its name, and the report.
 #![tactic(auto)]
 
+use chain_run::Chain;
 use std::env::FillError;
 use std::fs::File;
 use std::rt::Env;
@@ -32,17 +32,6 @@ fn main(rt: HostRuntime) {
             }
         };
         let _ = println!(rt; "{name}");
-        let mut space = [0u8; 65473];
-        let mut page = [0u8; 220];
-        match chain_run::read_report(&mut file, &mut space, &mut page) {
-            Ok(report) => {
-                if let Err(e) = rt.write_all(&page[..report.put]) {
-                    let _ = eprintln!(rt; "standard output: {e}");
-                }
-            }
-            Err(e) => {
-                let _ = eprintln!(rt; "{name}: {e}");
-            }
-        }
+        report_run::run::<Chain, _, _, _>(&rt, &mut file, name);
     }
 }

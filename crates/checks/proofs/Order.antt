@@ -1,4 +1,4 @@
--- The order of refusals is the paper's: what `earlier` picks from left to right is what the numbers of `tried` give, each over all blocks.
+-- The order of refusals is the scope's: what `earlier` picks from left to right is what the numbers of `tried` give, each over all blocks.
 -- Assumes nothing.
 use Prim.Native.Nat.{ℕ, ◌≤◌, ◌<◌}
 use mathlib.Core.Path.{◌≡◌, refl, ◌∙◌}

@@ -21,8 +21,3 @@ above_zero Tolerance = refl
 
 pub not-zero : (r : Refusal) → eqb (number r) 0 ≡ false
 not-zero r = ne_eqb (number r) 0 (λ e. omega (arith, above_zero r))
-
--- the outcome of one of two answers is one of their outcomes
-pub one_of : {A B : Type 0} (f : A → B) (b : Bool) (x y : A) → f (cond b x y) ≡ cond b (f x) (f y)
-one_of f true x y = refl
-one_of f false x y = refl

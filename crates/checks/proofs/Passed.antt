@@ -10,7 +10,7 @@ use lib.Ieee.{Float, binary64, of_bits, sub, lt}
 use Rattle.float.specs.Exact.{abs}
 use lib.Ieee.Scale.{finite}
 use Rattle.std.specs.Prelude.{Result, Ok, Err, ⊤}
-use Rattle.checks.specs.Checks.{Check, passed, and_then, both, tolerance, permitted, check_tolerance, all_finite, check_norm, check_length, check_values, check_param_block, validate_so3_params, validate_sgal3_params}
+use Rattle.checks.specs.Checks.{Check, passed, and_then, both, quaternion_norm_tolerance, permitted, check_tolerance, all_finite, check_norm, check_length, check_values, check_param_block}
 use Rattle.checks.specs.declared.Refusal.{Refusal}
 use Rattle.checks.specs.declared.Refusal.TheVariants.{Length, NotFinite, NotUnit, Tolerance}
 
@@ -94,22 +94,14 @@ passed-right (Err r) (Ok y) p e = never e
 passed-right (Ok x) (Err s) p e = never e
 passed-right (Err r) (Err s) p e = never e
 
-pub so3_passed : (s : List Float) (tolerance : Float) → validate_so3_params s tolerance ≡ passed → length s ≡ 4
-unfolding validate_so3_params
-so3_passed s tolerance = passed_length s 4 0 tolerance
-
-pub sgal3_passed : (s : List Float) (tolerance : Float) → validate_sgal3_params s tolerance ≡ passed → length s ≡ 11
-unfolding validate_sgal3_params
-sgal3_passed s tolerance = passed_length s 11 3 tolerance
-
 -- ---- 1e-6 is permitted, so a check at it never gives 7
-pub millionth_permitted : check_tolerance tolerance ≡ passed
-unfolding check_tolerance permitted tolerance of_bits lt
+pub millionth_permitted : check_tolerance quaternion_norm_tolerance ≡ passed
+unfolding check_tolerance permitted quaternion_norm_tolerance of_bits lt
 millionth_permitted = refl
 
-pub millionth-never-7 : (norm : Float) → check_norm norm tolerance ≡ Err Tolerance → ⊥
+pub millionth-never-7 : (norm : Float) → check_norm norm quaternion_norm_tolerance ≡ Err Tolerance → ⊥
 unfolding check_norm
-millionth-never-7 norm e = go (finite norm) (lt tolerance (abs (sub binary64 norm (of_bits binary64 0x3ff0_0000_0000_0000)))) (rw millionth_permitted at e)
+millionth-never-7 norm e = go (finite norm) (lt quaternion_norm_tolerance (abs (sub binary64 norm (of_bits binary64 0x3ff0_0000_0000_0000)))) (rw millionth_permitted at e)
   where
     go : (b c : Bool) → cond b (cond c (Err (NotUnit norm)) passed) (Err NotFinite) ≡ Err Tolerance → ⊥
     go true true e = let z : ◌≡◌ {A = ℕ} 0 1 = cc in omega arith

@@ -1,4 +1,4 @@
--- The checks of a parameter block, in the paper's order: length, all values, the tolerance, the quaternion's norm. Definitions only.
+-- The checks of a parameter block, in the scope's order: length, values and norm finite, the tolerance, how far the norm is from 1. Definitions only.
 use Rattle.std.specs.Prelude.{ℕ, Bool, true, not, ◌&&◌, ◌-◌, ◌%◌, cond, List, [], ◌∷◌, eqb, ltb, length, get_or, take, drop, Result, Ok, Err, ⊤, Float}
 use Rattle.std.specs.Float.{nan, binary64}
 use Rattle.std.specs.Float.Ieee.{of_bits, add, sub, mul, lt}
@@ -28,9 +28,9 @@ both (Ok a) (Err s) = Err s
 both (Err r) (Ok b) = Err r
 both (Err r) (Err s) = Err (earlier r s)
 
--- the f64 nearest 1e-6
-unfoldable pub tolerance : Float
-tolerance = of_bits binary64 0x3eb0_c6f7_a0b5_ed8d
+-- where the caller chooses none: the f64 nearest 1e-6
+unfoldable pub quaternion_norm_tolerance : Float
+quaternion_norm_tolerance = of_bits binary64 0x3eb0_c6f7_a0b5_ed8d
 
 -- finite, above 0 and at most 1/1024
 unfoldable pub permitted : Float → Bool
@@ -81,9 +81,3 @@ check_values s len = and_then (check_length s len) (λ _. cond (all_finite s) pa
 -- the quaternion of a block of len values is the four from `at` on
 unfoldable pub check_param_block : List Float → ℕ → ℕ → Float → Check
 check_param_block s len at tolerance = and_then (check_values s len) (λ _. check_unit_quaternion (take 4 (drop at s)) tolerance)
-
-unfoldable pub validate_sgal3_params : List Float → Float → Check
-validate_sgal3_params s tolerance = check_param_block s 11 3 tolerance
-
-unfoldable pub validate_so3_params : List Float → Float → Check
-validate_so3_params s tolerance = check_param_block s 4 0 tolerance

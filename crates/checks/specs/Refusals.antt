@@ -1,5 +1,7 @@
--- The paper's number and figures of each refusal, and which of two is tried first. Definitions only.
-use Rattle.std.specs.Prelude.{ℕ, suc, cond, List, [], ◌∷◌, eqb, ltb, Float}
+-- The scope's number and figures of each refusal, and which of two is tried first. Definitions only.
+use Rattle.std.specs.Prelude.{ℕ, suc, cond, List, [], ◌∷◌, eqb, ltb}
+use Rattle.checks.specs.declared.Figures.{Figures}
+use Rattle.checks.specs.declared.Figures.TheVariants as Figures
 use Rattle.checks.specs.declared.Refusal.{Refusal}
 use Rattle.checks.specs.declared.Refusal.TheVariants.{Length, NotFinite, Tolerance, NotUnit, Turn, Overflow}
 
@@ -21,25 +23,20 @@ place [] n = 0
 place (k ∷ ks) n = cond (eqb n k) 0 (suc (place ks n))
 
 -- what a refusal carries besides its number
-pub data Figures : Type 0 where
-  none : Figures
-  lengths : ℕ → ℕ → Figures
-  norm : Float → Figures
-
 unfoldable pub figures : Refusal → Figures
-figures (Length expected actual) = lengths expected actual
-figures NotFinite = none
-figures (NotUnit n) = norm n
-figures Turn = none
-figures Overflow = none
-figures Tolerance = none
+figures (Length expected actual) = Figures.Lengths expected actual
+figures NotFinite = Figures.None
+figures (NotUnit norm) = Figures.Norm norm
+figures Turn = Figures.None
+figures Overflow = Figures.None
+figures Tolerance = Figures.None
 
 -- Each number is tried over all blocks from left to right before the next number of `tried`: the one that stands further up there, and at one number
--- the left block's. That this is the paper's order over any blocks is `literal-order` (proofs/Order.antt).
+-- the left block's. That this is the scope's order over any blocks is `literal-order` (proofs/Order.antt).
 unfoldable pub earlier : Refusal → Refusal → Refusal
 earlier left right = cond (ltb (place tried (number right)) (place tried (number left))) right left
 
--- ---- the paper's order, literally, over the refusals of any blocks from left to right
+-- ---- the scope's order, literally, over the refusals of any blocks from left to right
 -- the first with the number k, or else d
 unfoldable pub first_with : ℕ → List Refusal → Refusal → Refusal
 first_with k [] d = d

@@ -17,10 +17,18 @@ pub enum Refusal {
     Tolerance,
 }
 
+// What a refusal carries besides its number.
+#[derive(Clone, Copy, Debug, PartialEq)]
+pub enum Figures {
+    None,
+    Lengths { expected: usize, actual: usize },
+    Norm(f64),
+}
+
 // How far from 1 the norm of a quaternion may be where the caller chooses no tolerance: QUATERNION_NORM_TOLERANCE of so3.rs.
-#[tactic(auto, unfolding(crate::specs::Checks::tolerance))]
-pub fn tolerance() -> f64
-    ensures { result ≡ Checks.tolerance }
+#[tactic(auto, unfolding(crate::specs::Checks::quaternion_norm_tolerance))]
+pub fn quaternion_norm_tolerance() -> f64
+    ensures { result ≡ Checks.quaternion_norm_tolerance }
 {
     1e-6
 }
@@ -44,6 +52,19 @@ impl Refusal {
             Refusal::Turn => 4,
             Refusal::Overflow => 5,
             Refusal::Tolerance => 7,
+        }
+    }
+
+    #[tactic(auto, unfolding(crate::specs::Refusals::figures))]
+    pub fn figures(self) -> Figures
+        ensures { result ≡ Refusals.figures self }
+    {
+        match self {
+            Refusal::Length { expected, actual } => Figures::Lengths { expected, actual },
+            Refusal::NotUnit(norm) => Figures::Norm(norm),
+            Refusal::NotFinite | Refusal::Turn | Refusal::Overflow | Refusal::Tolerance => {
+                Figures::None
+            }
         }
     }
 

@@ -10,7 +10,7 @@ use lib.ListN.{length, get_or, take, drop}
 use lib.Seq.{get_or-take, get_or-drop}
 use lib.Ieee.{Float, nan, binary64, fits}
 use Rattle.std.specs.Prelude.{Result, Ok}
-use Rattle.checks.specs.Checks.{passed, both, tolerance, all_finite, norm_of, check_unit_quaternion, check_length, check_values, check_param_block}
+use Rattle.checks.specs.Checks.{passed, both, quaternion_norm_tolerance, all_finite, norm_of, check_unit_quaternion, check_length, check_values, check_param_block}
 use Rattle.checks.specs.declared.Refusal.{Refusal}
 use Rattle.checks.proofs.Passed.{same, followed, second-passed, passed-left, passed-right}
 use Rattle.law.specs.Quaternion.{Quaternion}
@@ -19,7 +19,7 @@ use Rattle.manifold.specs.Answers.{quaternion_at, answered}
 use Rattle.manifold.specs.Group.{Group, validate_params, try_from_param_slice}
 use Rattle.manifold.specs.Operations as Operations
 use Rattle.manifold.proofs.Outcomes.{finished}
-use Rattle.manifold_blocks.specs.Calls as Calls
+use Rattle.manifold_calls.specs.Calls as Calls
 use Rattle.unit_norm.proofs.Accepted.{coefficients}
 use Rattle.unit_norm.proofs.Results.{Accepted, accepted, Made, made-accepted, made-near-one, made-passes}
 use Rattle.comes_back.specs.ComesBack.{ComesBack}
@@ -42,8 +42,8 @@ checked-at s i t = rw (norm-at s i) refl
 
 -- ---- what is needed of a group: how its blocks hold an element and its quaternion, and that its operations make quaternions near 1
 pub record Normalising {G V J P D : Type 0} (g : Group G V J P D) (values : G → List Float) (rotation : G → Quaternion Float) : Type 0 where
-  pub of_block : (s : List Float) → rotation (g.element_of s) ≡ quaternion (quaternion_at s g.quaternion)
-  pub values-length : (e : G) → length (values e) ≡ g.dim
+  pub of_block : (s : List Float) → rotation (g.element_of s) ≡ quaternion (quaternion_at s g.quaternion_place)
+  pub values-length : (e : G) → length (values e) ≡ g.rep_size
   pub values-back : (e : G) → g.element_of (values e) ≡ e
   pub compose : (a b : G) → Accepted (rotation a) → Accepted (rotation b) → Made (rotation (g.compose a b))
   pub inverse : (a : G) → Accepted (rotation a) → Made (rotation (g.inverse a))
@@ -51,27 +51,27 @@ pub record Normalising {G V J P D : Type 0} (g : Group G V J P D) (values : G �
 
 module _ {G V J P D : Type 0} {g : Group G V J P D} {values : G → List Float} {rotation : G → Quaternion Float} (R : Normalising g values rotation) where
   -- ---- a block that is accepted
-  pub block-accepted : (s : List Float) (t : Float) (e : G) → Binary64At s g.quaternion → try_from_param_slice g s t ≡ Ok e → Accepted (rotation e)
+  pub block-accepted : (s : List Float) (t : Float) (e : G) → Binary64At s g.quaternion_place → try_from_param_slice g s t ≡ Ok e → Accepted (rotation e)
   unfolding try_from_param_slice validate_params check_param_block quaternion_at
   block-accepted s t e f h =
-      let k = followed (check_param_block s g.dim g.quaternion t) _ e h in
-      let first = subst (λ (n : ℕ). T (fits binary64 (get_or s n nan))) (add-zero g.quaternion) (f 0 (lit< tt)) in
+      let k = followed (check_param_block s g.rep_size g.quaternion_place t) _ e h in
+      let first = subst (λ (n : ℕ). T (fits binary64 (get_or s n nan))) (add-zero g.quaternion_place) (f 0 (lit< tt)) in
       subst (λ (a : G). Accepted (rotation a)) (same k.after)
       (subst Accepted (sym (R.of_block s))
-      (accepted t first (f 1 (lit< tt)) (f 2 (lit< tt)) (f 3 (lit< tt)) (sym (checked-at s g.quaternion t) ∙ second-passed _ _ k.is)))
+      (accepted t first (f 1 (lit< tt)) (f 2 (lit< tt)) (f 3 (lit< tt)) (sym (checked-at s g.quaternion_place t) ∙ second-passed _ _ k.is)))
 
   -- ---- an element whose values are finite and whose quaternion was made by an operation
   pub comes-back : (e : G) → all_finite (values e) ≡ true → Made (rotation e) → ComesBack g values rotation e
   comes-back e f U = record { near_one = made-near-one U; accepted = again }
     where
-      is : quaternion (quaternion_at (values e) g.quaternion) ≡ rotation e
+      is : quaternion (quaternion_at (values e) g.quaternion_place) ≡ rotation e
       is = sym (R.of_block (values e)) ∙ ap rotation (R.values-back e)
 
-      norm : check_unit_quaternion (take 4 (drop g.quaternion (values e))) tolerance ≡ passed
-      norm = checked-at (values e) g.quaternion tolerance ∙ subst (λ (q : Quaternion Float). check_unit_quaternion (coefficients q) tolerance ≡ passed) (sym is) (made-passes U)
+      norm : check_unit_quaternion (take 4 (drop g.quaternion_place (values e))) quaternion_norm_tolerance ≡ passed
+      norm = checked-at (values e) g.quaternion_place quaternion_norm_tolerance ∙ subst (λ (q : Quaternion Float). check_unit_quaternion (coefficients q) quaternion_norm_tolerance ≡ passed) (sym is) (made-passes U)
 
-      again : try_from_param_slice g (values e) tolerance ≡ Ok e
-      again = unfold try_from_param_slice validate_params check_param_block check_values check_length in rw (eq-eqb (length (values e)) g.dim (R.values-length e), f, norm, R.values-back e) refl
+      again : try_from_param_slice g (values e) quaternion_norm_tolerance ≡ Ok e
+      again = unfold try_from_param_slice validate_params check_param_block check_values check_length in rw (eq-eqb (length (values e)) g.rep_size (R.values-length e), f, norm, R.values-back e) refl
 
   -- what a call made and answered
   pub made-comes-back : (e c : G) → answered values e ≡ Ok c → Made (rotation e) → ComesBack g values rotation c
@@ -104,22 +104,22 @@ module _ {G V J P D : Type 0} {g : Group G V J P D} {values : G → List Float} 
       made-comes-back (g.inverse f.answer) c f.after (R.inverse f.answer (A f.answer f.is))
 
   -- ---- the calls on blocks
-  pub compose-comes-back : (left right : List Float) (t : Float) (c : G) → Binary64At left g.quaternion → Binary64At right g.quaternion → Calls.compose g values left right t ≡ Ok c → ComesBack g values rotation c
+  pub compose-comes-back : (left right : List Float) (t : Float) (c : G) → Binary64At left g.quaternion_place → Binary64At right g.quaternion_place → Calls.compose g values left right t ≡ Ok c → ComesBack g values rotation c
   unfolding Calls.compose
   compose-comes-back left right t c l r h =
       two-come-back (try_from_param_slice g left t) (try_from_param_slice g right t) c (λ a e. block-accepted left t a l e) (λ b e. block-accepted right t b r e) h
 
-  pub inverse-comes-back : (block : List Float) (t : Float) (c : G) → Binary64At block g.quaternion → Calls.inverse g values block t ≡ Ok c → ComesBack g values rotation c
+  pub inverse-comes-back : (block : List Float) (t : Float) (c : G) → Binary64At block g.quaternion_place → Calls.inverse g values block t ≡ Ok c → ComesBack g values rotation c
   unfolding Calls.inverse
   inverse-comes-back block t c f h = one-comes-back (try_from_param_slice g block t) c (λ a e. block-accepted block t a f e) h
 
-  pub normalize-comes-back : (block : List Float) (t : Float) (c : G) → Binary64At block g.quaternion → Calls.normalize g values block t ≡ Ok c → ComesBack g values rotation c
+  pub normalize-comes-back : (block : List Float) (t : Float) (c : G) → Binary64At block g.quaternion_place → Calls.normalize g values block t ≡ Ok c → ComesBack g values rotation c
   unfolding Calls.normalize
   normalize-comes-back block t c b h =
       let f = followed (try_from_param_slice g block t) _ c h in
       made-comes-back (g.normalize f.answer) c f.after (R.normalize f.answer (block-accepted block t f.answer b f.is))
 
-  pub between-comes-back : (left right : List Float) (t : Float) (c : G) → Binary64At left g.quaternion → Binary64At right g.quaternion → Calls.between g values left right t ≡ Ok c → ComesBack g values rotation c
+  pub between-comes-back : (left right : List Float) (t : Float) (c : G) → Binary64At left g.quaternion_place → Binary64At right g.quaternion_place → Calls.between g values left right t ≡ Ok c → ComesBack g values rotation c
   unfolding Calls.between
   between-comes-back left right t c l r h =
       let a = try_from_param_slice g left t in

@@ -8,15 +8,16 @@ use lib.Dec.{T, eqb}
 use lib.ListN.{length}
 use lib.Ieee.{Float, binary64, fits}
 use Rattle.std.specs.Prelude.{Ok, Err}
-use Rattle.checks.specs.Checks.{tolerance, check_chain_length, check_param_block}
+use Rattle.checks.specs.Checks.{quaternion_norm_tolerance, check_chain_length, check_param_block}
 use Rattle.checks.specs.declared.Refusal.TheVariants.{Length}
 use Rattle.checks.proofs.Outcomes.{not-zero}
 use Rattle.checks.proofs.Passed.{never, same, followed, second-passed}
 use Rattle.sgal3.specs.Elements as Elements
+use Rattle.sgal3.specs.Elements.{rep_size}
 use Rattle.sgal3.specs.declared.Element.{Element}
-use Rattle.sgal3_composition.specs.Calls.{Answer, check_element}
-use Rattle.sgal3_composition.proofs.Generic.{checked}
-use Rattle.element_bytes.specs.Bytes.{values_at, element_bytes}
+use Rattle.sgal3_calls.specs.Composition.{Answer, check_element, most_blocks}
+use Rattle.sgal3_calls.proofs.Generic.{checked}
+use Rattle.element_bytes.specs.Bytes.{values_at, element_bytes, element_size}
 use Rattle.element_bytes.proofs.RoundTrips.{values-back}
 use Rattle.element_bytes.proofs.Stored.{element-length}
 use Rattle.byte_chain.specs.Blocks as Blocks
@@ -32,22 +33,22 @@ use Rattle.comes_back.proofs.Groups.{elements}
 use Rattle.comes_back.proofs.Elements.{ElementMade, AllMade, made-comes-back, block-accepted, composed-made, inverse-made, partial-made}
 
 -- ---- a block of bytes is the block of its values
-block-values : (s : List ℕ) (t : Float) (e : Element) → Blocks.check_block s t ≡ Ok e → check_element (values_at 11 s 0) t ≡ Ok e
+block-values : (s : List ℕ) (t : Float) (e : Element) → Blocks.check_block s t ≡ Ok e → check_element (values_at rep_size s 0) t ≡ Ok e
 unfolding Blocks.check_block
-block-values s t e = go (eqb (length s) 88)
+block-values s t e = go (eqb (length s) element_size)
   where
-    go : (b : Bool) → cond b (check_element (values_at 11 s 0) t) (Err (Length 88 (length s))) ≡ Ok e → check_element (values_at 11 s 0) t ≡ Ok e
+    go : (b : Bool) → cond b (check_element (values_at rep_size s 0) t) (Err (Length element_size (length s))) ≡ Ok e → check_element (values_at rep_size s 0) t ≡ Ok e
     go true h = h
     go false h = never h
 
 bytes-accepted : (s : List ℕ) (t : Float) → AllAccepted elements (Blocks.check_block s t)
-bytes-accepted s t e h = block-accepted (values_at 11 s 0) t (λ k l. values 11 s 0 (3 + k)) e (block-values s t e h)
+bytes-accepted s t e h = block-accepted (values_at rep_size s 0) t (λ k l. values rep_size s 0 (3 + k)) e (block-values s t e h)
 
 bytes-time : (s : List ℕ) (t : Float) (e : Element) → Blocks.check_block s t ≡ Ok e → T (fits binary64 e.time)
 unfolding check_element Elements.element_of
 bytes-time s t e h =
-    let f = followed (check_param_block (values_at 11 s 0) 11 3 t) _ e (block-values s t e h) in
-    subst (λ (a : Element). T (fits binary64 a.time)) (same f.after) (values 11 s 0 10)
+    let f = followed (check_param_block (values_at rep_size s 0) rep_size 3 t) _ e (block-values s t e h) in
+    subst (λ (a : Element). T (fits binary64 a.time)) (same f.after) (values rep_size s 0 10)
 
 -- ---- the bytes of an element that was made
 pub record Written (bytes : List ℕ) : Type 0 where
@@ -61,7 +62,7 @@ bytes-come-back {bytes} W =
       element = W.element;
       are = W.are;
       comes_back = back;
-      accepted = rw (W.are, block_of (element_bytes W.element) tolerance (element-length W.element), values-back W.element W.made.binary64, ← checked (Elements.coeffs W.element) tolerance) back.accepted;
+      accepted = rw (W.are, block_of (element_bytes W.element) quaternion_norm_tolerance (element-length W.element), values-back W.element W.made.binary64, ← checked (Elements.coeffs W.element) quaternion_norm_tolerance) back.accepted;
     }
   where
     back : ElementComesBack W.element
@@ -85,11 +86,11 @@ inverse-answered block t out = into-made _ out (inverse-made (Blocks.check_block
 
 partial-answered : (t : Float) (n : ℕ) (s : List ℕ) → AllMade (Blocks.chain_blocks t n s)
 unfolding Blocks.chain_blocks
-partial-answered t n s = partial-made t n (values_at (n * 11) s 0) (values (n * 11) s 0)
+partial-answered t n s = partial-made t n (values_at (n * rep_size) s 0) (values (n * rep_size) s 0)
 
 chain-answered : (blocks : List ℕ) (t : Float) (out : List ℕ) → AllMade (Entries.chain blocks t out)
 unfolding Entries.chain Blocks.chain
-chain-answered blocks t out = into-made _ out (λ c h. partial-answered t (length blocks / 88) blocks c (second-passed (check_chain_length (length blocks) 88 360448) _ h))
+chain-answered blocks t out = into-made _ out (λ c h. partial-answered t (length blocks / element_size) blocks c (second-passed (check_chain_length (length blocks) element_size (most_blocks * element_size)) _ h))
 
 -- where the number is 0 the output holds bytes that come back; the entries without a tolerance are these at 1e-6
 pub compose-writes : (left right : List ℕ) (t : Float) (out : List ℕ) → number (Entries.compose left right t out) ≡ 0 → Written (written (Entries.compose left right t out) out)

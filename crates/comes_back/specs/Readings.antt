@@ -6,11 +6,11 @@ use Rattle.law.specs.Rotation as Rotation
 use Rattle.law.specs.Rounded.{rounded}
 use Rattle.manifold.specs.Group.{Group, try_from_param_slice}
 use Rattle.manifold.specs.Operations as Operations
-use Rattle.so3.specs.Elements as So3
-use Rattle.so3.specs.declared.Element.{Element as So3-as-Element}
+use Rattle.so3.specs.Elements as So3Elements
+use Rattle.so3.specs.declared.Element.{Element as So3Element}
 use Rattle.sgal3.specs.Elements as Elements
 use Rattle.sgal3.specs.declared.Element.{Element}
-use Rattle.sgal3_composition.specs.Calls.{Binary64}
+use Rattle.sgal3_calls.specs.Composition.{Binary64}
 use Rattle.unit_norm.specs.HalfAngle.{half_sine, half_cosine}
 
 -- that a is the half-angle of the sine and the cosine that are read off a quaternion, normalised once more
@@ -18,8 +18,8 @@ abbrev pub ReadAs : Quaternion Float → Float → Type 0
 ReadAs q a = let u = Rotation.unit_quaternion rounded q in HalfAngle (half_sine u) (half_cosine u) a
 
 -- of SO(3), whose log normalises the quaternion, and of SGal(3), whose log takes SO(3)'s of what rotation_impl has normalised
-abbrev pub RotationReads : So3-as-Element → Type 0
-RotationReads a = ReadAs (So3.element a) (So3.half_angle a)
+abbrev pub RotationReads : So3Element → Type 0
+RotationReads a = ReadAs (So3Elements.element a) (So3Elements.half_angle a)
 
 abbrev pub ElementReads : Element → Type 0
 ElementReads e = RotationReads (Elements.rotation_impl e)

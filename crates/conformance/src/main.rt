@@ -1,4 +1,4 @@
-// Answers requests from standard input, each a call and its values, with the call's outcome. docs/TESTING.md has the format.
+// Answers requests from standard input, each a call and its values, with the call's outcome. rust/reference/README.md has the format.
 #![tactic(auto)]
 
 ghost use Rattle.std.specs.Prelude.{◌≡◌, ◌*◌, ◌≤◌, OnOk, length, take, drop};
@@ -6,9 +6,17 @@ ghost use Rattle.std.specs.Io.KnownBytes.{Consumes};
 ghost use Rattle.conformance.specs.Values.{Values};
 ghost use Rattle.conformance.specs.Sizes.{values_end};
 
-use outcomes::Request;
+use outcomes::{LONGEST, Request};
 use std::io;
 use std::io::Read;
+
+// The header of a request: four words.
+const HEADER: usize = 32;
+
+// The bytes of its values: with the header at most 64 KiB.
+const MOST_BODY: usize = 65536 - HEADER;
+
+const MOST_VALUES: usize = MOST_BODY / 8;
 
 // Why no more requests are answered.
 #[derive(Debug, Drop)]
@@ -55,12 +63,13 @@ fn request(call: u64, values: &[f64], begin: usize, extra: u64) -> Request<'_>
     }
 }
 
-// How many values a request's two blocks have together; none where that is too many, or where its header of 32 bytes is cut short.
+// How many values a request's two blocks have together; none where that is too many, or where its header is cut short.
 #[tactic(auto, unfolding(crate::specs::Sizes::values_end))]
 fn values_end(got: usize, first: u64, second: u64) -> Option<usize>
     ensures { result ≡ values_end got first second }
 {
-    if got < 32 || first > 8188 || second > 8188 - first {
+    let most = MOST_VALUES as u64;
+    if got < HEADER || first > most || second > most - first {
         return None;
     }
     Some((first + second) as usize)
@@ -70,10 +79,10 @@ fn values_end(got: usize, first: u64, second: u64) -> Option<usize>
 // has as many.
 #[tactic(auto, unfolding(crate::specs::Sizes::values_end))]
 fn answer_all<R: Read>(rt: &impl Print, input: &mut R) -> Result<(), RequestError> {
-    let mut body = [0u8; 65504];
-    let mut values = [0.0; 8188];
+    let mut body = [0u8; MOST_BODY];
+    let mut values = [0.0; MOST_VALUES];
     for _ in 0..0x1000_0000_0000_0000u64 {
-        let mut header = [0u8; 32];
+        let mut header = [0u8; HEADER];
         let got = filling::fill(input, &mut header);
         if got == 0 {
             return Ok(());
@@ -87,7 +96,7 @@ fn answer_all<R: Read>(rt: &impl Print, input: &mut R) -> Result<(), RequestErro
         read_values(&body, &mut values[..end]);
         let call = words::word(&header, 0);
         let extra = words::word(&header, 24);
-        let mut out = [0u8; 832];
+        let mut out = [0u8; LONGEST];
         let Some(count) = requests::answer(request(call, &values[..end], begin, extra), &mut out)
         else {
             return Err(RequestError::NoSuchCall);

@@ -1,4 +1,3 @@
 pub mod Values
-pub mod Parts
 pub mod Stored
 pub mod RoundTrips

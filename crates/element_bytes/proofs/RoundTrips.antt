@@ -14,15 +14,15 @@ use Rattle.checks.specs.Checks.{all_finite}
 use Rattle.checks.proofs.Finite.{both}
 use Rattle.words.specs.Word.{word_at, value_at, bytes_of, word_bytes}
 use Rattle.words.proofs.Bytes.{word_lt, bytes_back, value-back, pattern-back}
-use Rattle.sgal3.specs.Elements.{coeffs, element_of}
+use Rattle.sgal3.specs.Elements.{coeffs, element_of, rep_size}
 use Rattle.sgal3.specs.declared.Element.{Element}
-use Rattle.element_bytes.specs.Bytes.{values_at, value_bytes, element_bytes}
+use Rattle.element_bytes.specs.Bytes.{values_at, value_bytes, element_bytes, element_size}
 use Rattle.element_bytes.specs.Steps.{bytes}
 use Rattle.element_bytes.proofs.Values.{element-values}
 
 -- ---- an element's bytes, read again
 read : (e : Element)
-    → values_at 11 (element_bytes e) 0
+    → values_at rep_size (element_bytes e) 0
     ≡ value_at (bytes e.translation.x) 0 ∷ value_at (bytes e.translation.y) 0 ∷ value_at (bytes e.translation.z) 0
     ∷ value_at (bytes e.rotation.w) 0 ∷ value_at (bytes e.rotation.x) 0 ∷ value_at (bytes e.rotation.y) 0 ∷ value_at (bytes e.rotation.z) 0
     ∷ value_at (bytes e.velocity.x) 0 ∷ value_at (bytes e.velocity.y) 0 ∷ value_at (bytes e.velocity.z) 0
@@ -31,7 +31,7 @@ unfolding values_at value_at word_at element_bytes value_bytes word_bytes bytes_
 read e = refl
 
 -- of an f64 the language says that it is a binary64
-pub values-back : (e : Element) → ((i : ℕ) → T (fits binary64 (get_or (coeffs e) i nan))) → values_at 11 (element_bytes e) 0 ≡ coeffs e
+pub values-back : (e : Element) → ((i : ℕ) → T (fits binary64 (get_or (coeffs e) i nan))) → values_at rep_size (element_bytes e) 0 ≡ coeffs e
 unfolding coeffs
 values-back e f =
     rw (read e, value-back _ (f 0), value-back _ (f 1), value-back _ (f 2), value-back _ (f 3), value-back _ (f 4), value-back _ (f 5), value-back _ (f 6), value-back _ (f 7), value-back _ (f 8), value-back _ (f 9), value-back _ (f 10))
@@ -64,6 +64,6 @@ module _ (s : List ℕ) (byte : (i : ℕ) → get_or s i 0 < 256) where
       rw (a, take-add 8 (n * 8) (drop i s), drop-drop 8 i s, eight-back i (omega arith) b.0, run-back n (i + 8) (omega arith) b.1)
 
   -- of a slice of bytes the language says that each is below 256
-  pub block_back : (at : ℕ) → at + 88 ≤ length s → all_finite (values_at 11 s at) ≡ true → element_bytes (element_of (values_at 11 s at)) ≡ take 88 (drop at s)
+  pub block_back : (at : ℕ) → at + element_size ≤ length s → all_finite (values_at rep_size s at) ≡ true → element_bytes (element_of (values_at rep_size s at)) ≡ take element_size (drop at s)
   unfolding element_bytes
-  block_back at h f = ap value_bytes (element-values s at) ∙ run-back 11 at h f
+  block_back at h f = ap value_bytes (element-values s at) ∙ run-back rep_size at h f

@@ -12,11 +12,11 @@ use Rattle.checks.specs.Checks.{all_finite}
 use Rattle.words.specs.Word.{value_at}
 use Rattle.words.proofs.Bytes.{word_same}
 use Rattle.manifold.specs.Answers.{vector_at, quaternion_at}
-use Rattle.sgal3.specs.Elements.{coeffs, element_of}
+use Rattle.sgal3.specs.Elements.{coeffs, element_of, rep_size}
 use Rattle.element_bytes.specs.Bytes.{values_at}
 
 pub eleven : (s : List ℕ) (i : ℕ)
-    → values_at 11 s i
+    → values_at rep_size s i
     ≡ value_at s i ∷ value_at s (i + 8) ∷ value_at s (i + 16) ∷ value_at s (i + 24) ∷ value_at s (i + 32) ∷ value_at s (i + 40) ∷ value_at s (i + 48)
     ∷ value_at s (i + 56) ∷ value_at s (i + 64) ∷ value_at s (i + 72) ∷ value_at s (i + 80) ∷ []
 unfolding values_at
@@ -90,6 +90,6 @@ unfolding values_at all_finite
 none_left n s start i h = let e : n - i ≡ 0 = omega arith in rw e
 
 -- the values of a block's element are the block's own
-pub element-values : (s : List ℕ) (i : ℕ) → coeffs (element_of (values_at 11 s i)) ≡ values_at 11 s i
+pub element-values : (s : List ℕ) (i : ℕ) → coeffs (element_of (values_at rep_size s i)) ≡ values_at rep_size s i
 unfolding coeffs element_of vector_at quaternion_at
 element-values s i = ap (λ (v : List Float). coeffs (element_of v)) (eleven s i) ∙ sym (eleven s i)

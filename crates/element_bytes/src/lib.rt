@@ -11,15 +11,18 @@ ghost use Rattle.element_bytes.specs.Steps as Steps;
 
 use checks::Refusal;
 use linear::{Quaternion, Vec3};
-use sgal3::Element;
+use sgal3::{Element, REP_SIZE};
 
-// Whether the eleven values of the 88 bytes from start on are finite.
+// How many bytes an element has.
+pub const ELEMENT_SIZE: usize = 8 * REP_SIZE;
+
+// Whether the values of the element's bytes from start on are finite.
 #[tactic(auto, using(crate::proofs::Values::stops, crate::proofs::Values::goes_on, crate::proofs::Values::none_left))]
-fn all_finite(s: &[u8], start: usize) -> bool
-    requires { start + 88 ≤ length s.now }
-    ensures { result ≡ all_finite (Bytes.values_at 11 s.now start) }
+fn values_finite(s: &[u8], start: usize) -> bool
+    requires { start + ELEMENT_SIZE ≤ length s.now }
+    ensures { result ≡ all_finite (Bytes.values_at REP_SIZE s.now start) }
 {
-    for i in 0..11 {
+    for i in 0..REP_SIZE {
         if !words::is_finite_at(s, start + i * 8) {
             return false;
         }
@@ -60,12 +63,12 @@ fn quaternion(s: &[u8], at: usize) -> Quaternion
     }
 }
 
-// The element of the 88 bytes from at on, whose values are finite.
+// The element of the bytes from at on, whose values are finite.
 #[tactic(auto, unfolding(sgal3::specs::Elements::element_of, manifold::specs::Answers::vector_at, manifold::specs::Answers::quaternion_at, crate::specs::Steps::vector_at, crate::specs::Steps::quaternion_at, crate::specs::Bytes::values_at, checks::specs::Checks::all_finite))]
 pub fn element(s: &[u8], at: usize) -> Element
-    requires at_in_bounds { at + 88 ≤ length s.now }
-    requires at_value { all_finite (Bytes.values_at 11 s.now at) ≡ true }
-    ensures { result ≡ element_of (Bytes.values_at 11 s.now at) }
+    requires at_in_bounds { at + ELEMENT_SIZE ≤ length s.now }
+    requires at_value { all_finite (Bytes.values_at REP_SIZE s.now at) ≡ true }
+    ensures { result ≡ element_of (Bytes.values_at REP_SIZE s.now at) }
 {
     let translation = vector(s, at);
     let rotation = quaternion(s, at + 24);
@@ -78,14 +81,14 @@ pub fn element(s: &[u8], at: usize) -> Element
     }
 }
 
-// The check of the 88 bytes from at on. It does not hand on the values: its callers read them where they use them, which is faster
+// The check of the element's bytes from at on. It does not hand on the values: its callers read them where they use them, which is faster
 // than through memory.
 #[tactic(auto, unfolding(checks::specs::Checks::check_param_block, checks::specs::Checks::check_values, checks::specs::Checks::check_length, crate::specs::Bytes::values_at, sgal3::specs::Elements::coeffs, sgal3::specs::Elements::element_of, manifold::specs::Answers::vector_at, manifold::specs::Answers::quaternion_at))]
-pub fn check_values(s: &[u8], at: usize, tolerance: f64) -> Result<(), Refusal>
-    requires { at + 88 ≤ length s.now }
-    ensures { result ≡ check_param_block (Bytes.values_at 11 s.now at) 11 3 tolerance }
+pub fn check_bytes(s: &[u8], at: usize, tolerance: f64) -> Result<(), Refusal>
+    requires { at + ELEMENT_SIZE ≤ length s.now }
+    ensures { result ≡ check_param_block (Bytes.values_at REP_SIZE s.now at) REP_SIZE 3 tolerance }
 {
-    if !all_finite(s, at) {
+    if !values_finite(s, at) {
         return Err(Refusal::NotFinite);
     }
     let values = element(s, at).coeffs();
@@ -116,13 +119,13 @@ fn put_quaternion(out: &mut [u8], at: usize, q: Quaternion)
 }
 
 #[tactic(auto, unfolding(sgal3::specs::Elements::coeffs, checks::specs::Checks::all_finite))]
-pub fn put_element(out: &mut [u8], e: Element)
-    requires out_len { length out.old ≡ 88 }
+pub fn put_element(out: &mut [u8], at: usize, e: Element)
+    requires at_in_bounds { at + ELEMENT_SIZE ≤ length out.old }
     requires e_value { all_finite (coeffs e) ≡ true }
-    ensures { out.new ≡ Bytes.element_bytes e }
+    ensures { out.new ≡ sets out.old at (Bytes.element_bytes e) }
 {
-    put_vector(out, 0, e.translation);
-    put_quaternion(out, 24, e.rotation);
-    put_vector(out, 56, e.velocity);
-    words::put_finite_value(out, 80, e.time);
+    put_vector(out, at, e.translation);
+    put_quaternion(out, at + 24, e.rotation);
+    put_vector(out, at + 56, e.velocity);
+    words::put_finite_value(out, at + 80, e.time);
 }

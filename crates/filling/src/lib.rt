@@ -1,4 +1,5 @@
-// Fills a buffer from a reader.
+// Fills a buffer from a reader. That as much is read as the reader has is promised of `try_fill` where it answers, and not of `fill`, to which a failed read is
+// as the end; that a read doesn't fail without need no contract can say.
 #![tactic(auto)]
 
 ghost use Rattle.std.specs.Prelude.{◌<◌, ◌≤◌, ℕ, IfOk, OnErr, IsOk, length, take};

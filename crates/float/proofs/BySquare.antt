@@ -8,25 +8,6 @@ use Rattle.whole_roots.specs.Roots.{square, Between}
 use Rattle.float.specs.Steps.{Rooted, SquareTerm, Clear}
 use Rattle.float.proofs.SquareRoot.{root-of-field}
 
--- ---- the distance d of b from 1.0's pattern
-module _ (b d : ℕ) (below : b ≤ 0x3ff0_0000_0000_0000 → d + b ≡ 0x3ff0_0000_0000_0000) (above : 0x3ff0_0000_0000_0000 ≤ b → b ≡ d + 0x3ff0_0000_0000_0000) where
-  pub near : 0x3fef_ffff_8000_0000 ≤ b → b ≤ 0x3ff0_0000_8000_0000 → d ≤ 2 ^ 31
-  near lo hi = go (dec_le b 0x3ff0_0000_0000_0000)
-    where
-      go : Dec (b ≤ 0x3ff0_0000_0000_0000) → d ≤ 2 ^ 31
-      go (yes g) = let e = below g in omega arith
-      go (no g) = let e = above (le_of_lt (lt_of_not-le g)) in omega arith
-
-  pub term-below : d ≤ 2 ^ 31 → b < 0x3ff0_0000_0000_0000 → SquareTerm b (d * d)
-  term-below D g =
-      let s : d * d ≤ 2 ^ 31 * 2 ^ 31 = mul-le-mul D D in
-      record { distance = d; near = D; small = omega arith; below = λ h. (below (le_of_lt g), refl); above = λ h. absurd (lt_irrefl _ (lt_of_lt_of_le g h)) }
-
-  pub term-above : d ≤ 2 ^ 31 → 0x3ff0_0000_0000_0000 ≤ b → SquareTerm b (d * d * 2)
-  term-above D g =
-      let s : d * d ≤ 2 ^ 31 * 2 ^ 31 = mul-le-mul D D in
-      record { distance = d; near = D; small = omega arith; below = λ h. absurd (lt_irrefl _ (lt_of_lt_of_le h g)); above = λ h. (above g, refl) }
-
 -- ---- above 1.0 by d patterns, d * d being k * 2 ^ 54 and a clear rest: the root is e further than 2 ^ 52, for a d - k of 2 * e or one more
 record Steps (d k : ℕ) : Type 0 where
   far : d ≤ 2 ^ 31

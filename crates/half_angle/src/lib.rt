@@ -1,5 +1,6 @@
 // The angle from 0 to 1.6 whose sine and cosine are as s to c, for an s and a c that are not negative: half the turn of a unit quaternion, where s is the
-// root of x² + y² + z² and c the magnitude of w. How near it is, for every s and c, is proved in proofs/Accuracy.antt.
+// root of x² + y² + z² and c the magnitude of w. How near it is, for every s and c up to 2 whose sum is ½ or more, is
+// proved in proofs/Accuracy.antt.
 #![tactic(auto)]
 
 ghost use Rattle.std.specs.Prelude.{◌≡◌, ◌≤◌};

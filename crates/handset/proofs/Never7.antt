@@ -1,5 +1,5 @@
 -- An entry at 1e-6 never returns 7: that tolerance is permitted. Assumes nothing.
-use Prim.Native.Nat.{ℕ, zero, suc, ◌-◌, ◌/◌, ◌%◌}
+use Prim.Native.Nat.{ℕ, zero, suc, ◌-◌, ◌*◌, ◌/◌, ◌%◌}
 use mathlib.Core.Path.{◌≡◌, sym, subst, ◌∙◌}
 use mathlib.Core.Bool.{Bool, true, false, cond}
 use mathlib.Core.List.{List}
@@ -11,16 +11,17 @@ use lib.Ieee.Scale.{finite}
 use Rattle.std.specs.Prelude.{Result, Ok, Err}
 use Rattle.float.specs.Exact.{abs}
 use Rattle.checks.specs.Refusals.{number}
-use Rattle.checks.specs.Checks.{passed, and_then, both, tolerance, check_tolerance, all_finite, norm_of, check_norm, check_unit_quaternion, check_length, check_chain_length, check_values, check_param_block}
+use Rattle.checks.specs.Checks.{passed, and_then, both, quaternion_norm_tolerance, all_finite, norm_of, check_norm, check_unit_quaternion, check_length, check_chain_length, check_values, check_param_block}
 use Rattle.checks.specs.declared.Refusal.{Refusal}
 use Rattle.checks.specs.declared.Refusal.TheVariants.{Length, NotFinite, NotUnit, Overflow}
 use Rattle.checks.proofs.Order.{Picked, left, right, picked}
 use Rattle.checks.proofs.Passed.{millionth_permitted}
 use Rattle.sgal3.specs.Elements as Elements
+use Rattle.sgal3.specs.Elements.{rep_size}
 use Rattle.sgal3.specs.declared.Element.{Element}
-use Rattle.sgal3_composition.specs.Calls as Calls
-use Rattle.sgal3_composition.specs.Calls.{Answer}
-use Rattle.element_bytes.specs.Bytes.{values_at}
+use Rattle.sgal3_calls.specs.Composition as Composition
+use Rattle.sgal3_calls.specs.Composition.{Answer}
+use Rattle.element_bytes.specs.Bytes.{values_at, element_size}
 use Rattle.byte_chain.specs.Blocks as Blocks
 use Rattle.handset.specs.Entries as Entries
 use Rattle.handset.proofs.Outputs.{done-number, refused-number}
@@ -46,18 +47,18 @@ then_not (Ok x) f h k = k x
 then_not (Err r) f h k = h
 
 -- ---- a block, the answer of an operation, two blocks, a chain
-checked : (v : List Float) → Not7 (check_param_block v 11 3 tolerance)
+checked : (v : List Float) → Not7 (check_param_block v rep_size 3 quaternion_norm_tolerance)
 unfolding check_param_block check_values check_length check_unit_quaternion check_norm number
 checked v =
     rw millionth_permitted
-    (go (eqb (length v) 11) (all_finite v) (finite n) (lt tolerance (abs (sub binary64 n (of_bits binary64 0x3ff0_0000_0000_0000)))))
+    (go (eqb (length v) rep_size) (all_finite v) (finite n) (lt quaternion_norm_tolerance (abs (sub binary64 n (of_bits binary64 0x3ff0_0000_0000_0000)))))
   where
     n : Float
     n = norm_of (take 4 (drop 3 v))
 
     go : (a b c d : Bool)
         → Not7
-        (and_then (and_then (cond a passed (Err (Length 11 (length v)))) (λ _. cond b passed (Err NotFinite)))
+        (and_then (and_then (cond a passed (Err (Length rep_size (length v)))) (λ _. cond b passed (Err NotFinite)))
         (λ _. cond c (and_then passed (λ _. cond d (Err (NotUnit n)) passed)) (Err NotFinite)))
     go true true true true = λ e. omega arith
     go true true true false = tt
@@ -65,60 +66,60 @@ checked v =
     go true false c d = λ e. omega arith
     go false b c d = λ e. omega arith
 
-taken : (v : List Float) → Not7 (Calls.check_element v tolerance)
-unfolding Calls.check_element
-taken v = then_not (check_param_block v 11 3 tolerance) (λ _. Ok (Elements.element_of v)) (checked v) (λ x. tt)
+taken : (v : List Float) → Not7 (Composition.check_element v quaternion_norm_tolerance)
+unfolding Composition.check_element
+taken v = then_not (check_param_block v rep_size 3 quaternion_norm_tolerance) (λ _. Ok (Elements.element_of v)) (checked v) (λ x. tt)
 
-one_block : (s : List ℕ) → Not7 (Blocks.check_block s tolerance)
+one_block : (s : List ℕ) → Not7 (Blocks.check_block s quaternion_norm_tolerance)
 unfolding Blocks.check_block number
-one_block s = go (eqb (length s) 88)
+one_block s = go (eqb (length s) element_size)
   where
-    go : (b : Bool) → Not7 (cond b (Calls.check_element (values_at 11 s 0) tolerance) (Err (Length 88 (length s))))
-    go true = taken (values_at 11 s 0)
+    go : (b : Bool) → Not7 (cond b (Composition.check_element (values_at rep_size s 0) quaternion_norm_tolerance) (Err (Length element_size (length s))))
+    go true = taken (values_at rep_size s 0)
     go false = λ e. omega arith
 
-result_not : (e : Element) → Not7 (Calls.element_answer e)
-unfolding Calls.element_answer number
+result_not : (e : Element) → Not7 (Composition.element_answer e)
+unfolding Composition.element_answer number
 result_not e = go (all_finite (Elements.coeffs e))
   where
     go : (b : Bool) → Not7 (cond b (Ok e) (Err Overflow))
     go true = tt
     go false = λ q. omega arith
 
-composed : (a b : Answer) → Not7 a → Not7 b → Not7 (Calls.compose_answers a b)
-unfolding Calls.compose_answers
-composed a b h k = then_not (both a b) (λ p. Calls.element_answer (Elements.compose p.0 p.1)) (both_not a b h k) (λ p. result_not (Elements.compose p.0 p.1))
+composed : (a b : Answer) → Not7 a → Not7 b → Not7 (Composition.compose_answers a b)
+unfolding Composition.compose_answers
+composed a b h k = then_not (both a b) (λ p. Composition.element_answer (Elements.compose p.0 p.1)) (both_not a b h k) (λ p. result_not (Elements.compose p.0 p.1))
 
-inverted : (a : Answer) → Not7 a → Not7 (Calls.inverse_answer a)
-unfolding Calls.inverse_answer
-inverted a h = then_not a (λ x. Calls.element_answer (Elements.inverse x)) h (λ x. result_not (Elements.inverse x))
+inverted : (a : Answer) → Not7 a → Not7 (Composition.inverse_answer a)
+unfolding Composition.inverse_answer
+inverted a h = then_not a (λ x. Composition.element_answer (Elements.inverse x)) h (λ x. result_not (Elements.inverse x))
 
-from_held : (n : ℕ) (s : List Float) (held : Answer) → Not7 held → Not7 (Calls.chain_from tolerance held n s)
-unfolding Calls.chain_from
+from_held : (n : ℕ) (s : List Float) (held : Answer) → Not7 held → Not7 (Composition.chain_from quaternion_norm_tolerance held n s)
+unfolding Composition.chain_from
 from_held zero s held h = h
-from_held (suc n) s held h = from_held n (drop 11 s) _ (composed held (Calls.check_element (take 11 s) tolerance) h (taken (take 11 s)))
+from_held (suc n) s held h = from_held n (drop rep_size s) _ (composed held (Composition.check_element (take rep_size s) quaternion_norm_tolerance) h (taken (take rep_size s)))
 
-lengths : (n m : ℕ) → Not7 (check_chain_length n 88 m)
+lengths : (n m : ℕ) → Not7 (check_chain_length n element_size m)
 unfolding check_chain_length number
-lengths n m = go (ltb m n) (eqb (n % 88) 0)
+lengths n m = go (ltb m n) (eqb (n % element_size) 0)
   where
-    go : (a b : Bool) → Not7 (cond a (Err (Length m n)) (cond b passed (Err (Length (n - n % 88) n))))
+    go : (a b : Bool) → Not7 (cond a (Err (Length m n)) (cond b passed (Err (Length (n - n % element_size) n))))
     go true b = λ e. omega arith
     go false true = tt
     go false false = λ e. omega arith
 
-chained : (most : ℕ) (s : List ℕ) → Not7 (Blocks.chain most s tolerance)
-unfolding Blocks.chain Blocks.chain_blocks Calls.chain_blocks Calls.starts
+chained : (most : ℕ) (s : List ℕ) → Not7 (Blocks.chain most s quaternion_norm_tolerance)
+unfolding Blocks.chain Blocks.chain_blocks Composition.chain_blocks Composition.starts
 chained most s =
-    then_not (check_chain_length (length s) 88 most) _ (lengths (length s) most)
-    (λ x. rw millionth_permitted (from_held (length s / 88) _ (Ok Elements.identity) tt))
+    then_not (check_chain_length (length s) element_size most) _ (lengths (length s) most)
+    (λ x. rw millionth_permitted (from_held (length s / element_size) _ (Ok Elements.identity) tt))
 
 -- ---- with the output as one more block
 with_output : (out : List ℕ) (a : Answer) → Not7 a → Not7 (Entries.into out a)
 unfolding Entries.into Entries.check_output number
-with_output out a h = then_not (both a _) (λ p. Ok p.0) (both_not a _ h (go (eqb (length out) 88))) (λ p. tt)
+with_output out a h = then_not (both a _) (λ p. Ok p.0) (both_not a _ h (go (eqb (length out) element_size))) (λ p. tt)
   where
-    go : (b : Bool) → Not7 (cond b passed (Err (Length 88 (length out))))
+    go : (b : Bool) → Not7 (cond b passed (Err (Length element_size (length out))))
     go true = tt
     go false = λ e. omega arith
 
@@ -126,18 +127,18 @@ returned : (a : Answer) → Not7 a → Entries.number a ≡ 7 → ⊥
 returned (Ok e) h q = omega (arith, done-number e, q)
 returned (Err r) h q = h (sym (refused-number r) ∙ q)
 
-pub compose-never-7 : (l r out : List ℕ) → Entries.number (Entries.compose l r tolerance out) ≡ 7 → ⊥
+pub compose-never-7 : (l r out : List ℕ) → Entries.number (Entries.compose l r quaternion_norm_tolerance out) ≡ 7 → ⊥
 unfolding Entries.compose
 compose-never-7 l r out = returned _ (with_output out _ (composed _ _ (one_block l) (one_block r)))
 
-pub in-place-never-7 : (held step : List ℕ) → Entries.number (Entries.compose_in_place held step tolerance) ≡ 7 → ⊥
+pub in-place-never-7 : (held step : List ℕ) → Entries.number (Entries.compose_in_place held step quaternion_norm_tolerance) ≡ 7 → ⊥
 unfolding Entries.compose_in_place
 in-place-never-7 held step = compose-never-7 held step held
 
-pub inverse-never-7 : (s out : List ℕ) → Entries.number (Entries.inverse s tolerance out) ≡ 7 → ⊥
+pub inverse-never-7 : (s out : List ℕ) → Entries.number (Entries.inverse s quaternion_norm_tolerance out) ≡ 7 → ⊥
 unfolding Entries.inverse
 inverse-never-7 s out = returned _ (with_output out _ (inverted _ (one_block s)))
 
-pub chain-never-7 : (s out : List ℕ) → Entries.number (Entries.chain s tolerance out) ≡ 7 → ⊥
+pub chain-never-7 : (s out : List ℕ) → Entries.number (Entries.chain s quaternion_norm_tolerance out) ≡ 7 → ⊥
 unfolding Entries.chain
-chain-never-7 s out = returned _ (with_output out _ (chained 360448 s))
+chain-never-7 s out = returned _ (with_output out _ (chained (Composition.most_blocks * element_size) s))

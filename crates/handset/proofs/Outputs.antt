@@ -17,12 +17,14 @@ use Rattle.checks.specs.declared.Refusal.TheVariants.{Length}
 use Rattle.checks.specs.Outcomes.{outcome}
 use Rattle.checks.proofs.Order.{Picked, left, right, picked}
 use Rattle.checks.proofs.Outcomes.{not-zero}
-use Rattle.element_bytes.specs.Bytes.{values_at, element_bytes}
+use Rattle.element_bytes.specs.Bytes.{values_at, element_bytes, element_size}
+use Rattle.element_bytes.proofs.Stored.{element-over}
 use Rattle.byte_chain.specs.Blocks as Blocks
 use Rattle.byte_chain.proofs.ByteBlocks.{block_of, no_block}
-use Rattle.sgal3_composition.specs.Calls as Calls
-use Rattle.sgal3_composition.specs.Calls.{Answer}
-use Rattle.sgal3_composition.specs.Outcomes.{element}
+use Rattle.sgal3_calls.specs.Composition as Composition
+use Rattle.sgal3_calls.specs.Composition.{Answer}
+use Rattle.sgal3_calls.specs.Outcomes.{element}
+use Rattle.sgal3.specs.Elements.{rep_size}
 use Rattle.handset.specs.Entries.{number, written, Answered, check_output, into}
 use Rattle.handset.specs.Steps.{Stored, first_or}
 
@@ -43,7 +45,7 @@ pub refused-written : (r : Refusal) (out : List ℕ) → written (Err r) out ≡
 unfolding written number element outcome
 refused-written r out = rw (not-zero r)
 
-pub ruleset stored = (done-number, done-written, refused-number, refused-written)
+pub ruleset stored = (done-number, done-written, refused-number, refused-written, element-over)
 
 -- a refusal leaves the output as it was
 untouched : (a : Answer) (out : List ℕ) → (number a ≡ 0 → ⊥) → written a out ≡ out
@@ -54,7 +56,7 @@ refused : (out : List ℕ) (a : Answer) (r : Refusal) (n : ℕ) → a ≡ Err r 
 refused out a r n e h = rw e (record { returned = h ∙ sym (refused-number r); output = sym (refused-written r out); untouched = λ z. refl })
 
 -- ---- the output's length
-pub right-length : (out : List ℕ) (a : Answer) → length out ≡ 88 → into out a ≡ a
+pub right-length : (out : List ℕ) (a : Answer) → length out ≡ element_size → into out a ≡ a
 unfolding into check_output
 right-length out a e = rw (eq-eqb _ _ e) (alone a)
   where
@@ -63,7 +65,7 @@ right-length out a e = rw (eq-eqb _ _ e) (alone a)
     alone (Err r) = unfold both in refl
 
 -- of the right length: a is what was stored or left, and b what it is by definition
-pub taken-output : (out after : List ℕ) (a b : Answer) (r : ℕ) → length out ≡ 88 → a ≡ b → Stored a out after r → Answered (into out b) out after r
+pub taken-output : (out after : List ℕ) (a b : Answer) (r : ℕ) → length out ≡ element_size → a ≡ b → Stored a out after r → Answered (into out b) out after r
 taken-output out after a b r e p h =
     let q : a ≡ into out b = p ∙ sym (right-length out b e) in
     record {
@@ -72,10 +74,10 @@ taken-output out after a b r e p h =
       untouched = λ n. h.1 ∙ untouched a out (λ z. n (h.0 ∙ z));
     }
 
-pub refusal-output : (out : List ℕ) (q : Refusal) (b : Answer) (n : ℕ) → length out ≡ 88 → Err q ≡ b → n ≡ Refusals.number q → Answered (into out b) out out n
+pub refusal-output : (out : List ℕ) (q : Refusal) (b : Answer) (n : ℕ) → length out ≡ element_size → Err q ≡ b → n ≡ Refusals.number q → Answered (into out b) out out n
 refusal-output out q b n e p h = rw (right-length out b e) (refused out b q n (sym p) h)
 
-pub refused-length : (out : List ℕ) (b : Answer) (n m : ℕ) → length out ≡ 88 → b ≡ Err (Length n m) → Answered (into out b) out out 1
+pub refused-length : (out : List ℕ) (b : Answer) (n m : ℕ) → length out ≡ element_size → b ≡ Err (Length n m) → Answered (into out b) out out 1
 unfolding Refusals.number
 refused-length out b n m e p = refusal-output out (Length n m) b 1 e (sym p) refl
 
@@ -129,9 +131,9 @@ module _ (n m : ℕ) where
   length-right f (Err r) = record { refusal = Refusals.earlier r (Length n m); is = refl; one = one-right r (picked r (Length n m)) }
 
 -- of another length: the answer 1, and nothing written
-pub refused-output : (out : List ℕ) (a : Answer) → (length out ≡ 88 → ⊥) → Answered (into out a) out out 1
+pub refused-output : (out : List ℕ) (a : Answer) → (length out ≡ element_size → ⊥) → Answered (into out a) out out 1
 unfolding into check_output
-refused-output out a e = rw (ne_eqb _ _ e) (one-refused out _ (length-right 88 (length out) _ a))
+refused-output out a e = rw (ne_eqb _ _ e) (one-refused out _ (length-right element_size (length out) _ a))
 
 -- ---- the block that a chain starts from
 pub first-empty : (f held : List ℕ) → length f ≡ 0 → first_or f held ≡ held
@@ -144,25 +146,25 @@ unfolding first_or
 first-given [] held e = absurd (e refl)
 first-given (b ∷ f) held e = refl
 
-pub first_block : (f held : List ℕ) → length f ≡ 88 → first_or f held ≡ f
+pub first_block : (f held : List ℕ) → length f ≡ element_size → first_or f held ≡ f
 first_block f held e = first-given f held (λ z. omega arith)
 
 pub ruleset firsts = (first-empty, first-given, first_block)
 
 -- ---- the output of the right length, and an input of another
-pub refused-block : (s out : List ℕ) (t : Float) → length out ≡ 88 → (length s ≡ 88 → ⊥) → Answered (into out (Calls.inverse_answer (Blocks.check_block s t))) out out 1
-unfolding Calls.inverse_answer
-refused-block s out t o e = refused-length out _ 88 (length s) o (rw (no_block s t e))
+pub refused-block : (s out : List ℕ) (t : Float) → length out ≡ element_size → (length s ≡ element_size → ⊥) → Answered (into out (Composition.inverse_answer (Blocks.check_block s t))) out out 1
+unfolding Composition.inverse_answer
+refused-block s out t o e = refused-length out _ element_size (length s) o (rw (no_block s t e))
 
 -- the left block of a compose, and the right one
-pub refused-left : (s out : List ℕ) (t : Float) (b : Answer) → length out ≡ 88 → (length s ≡ 88 → ⊥) → Answered (into out (Calls.compose_answers (Blocks.check_block s t) b)) out out 1
-unfolding Calls.compose_answers
-refused-left s out t b o e = rw (right-length out _ o, no_block s t e) (one-refused out _ (length-left 88 (length s) _ b))
+pub refused-left : (s out : List ℕ) (t : Float) (b : Answer) → length out ≡ element_size → (length s ≡ element_size → ⊥) → Answered (into out (Composition.compose_answers (Blocks.check_block s t) b)) out out 1
+unfolding Composition.compose_answers
+refused-left s out t b o e = rw (right-length out _ o, no_block s t e) (one-refused out _ (length-left element_size (length s) _ b))
 
-pub refused-right : (s out : List ℕ) (t : Float) (a : Answer) → length out ≡ 88 → (length s ≡ 88 → ⊥) → Answered (into out (Calls.compose_answers a (Blocks.check_block s t))) out out 1
-unfolding Calls.compose_answers
-refused-right s out t a o e = rw (right-length out _ o, no_block s t e) (one-refused out _ (length-right 88 (length s) _ a))
+pub refused-right : (s out : List ℕ) (t : Float) (a : Answer) → length out ≡ element_size → (length s ≡ element_size → ⊥) → Answered (into out (Composition.compose_answers a (Blocks.check_block s t))) out out 1
+unfolding Composition.compose_answers
+refused-right s out t a o e = rw (right-length out _ o, no_block s t e) (one-refused out _ (length-right element_size (length s) _ a))
 
 -- ---- the inverse
-pub inverse-block : (s : List ℕ) (t : Float) → length s ≡ 88 → Calls.inverse_answer (Calls.check_element (values_at 11 s 0) t) ≡ Calls.inverse_answer (Blocks.check_block s t)
+pub inverse-block : (s : List ℕ) (t : Float) → length s ≡ element_size → Composition.inverse_answer (Composition.check_element (values_at rep_size s 0) t) ≡ Composition.inverse_answer (Blocks.check_block s t)
 inverse-block s t e = rw (block_of s t e)

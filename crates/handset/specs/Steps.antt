@@ -2,7 +2,7 @@
 use Rattle.std.specs.Prelude.{ℕ, ◌≡◌, true, List, [], ◌∷◌, Ok, Err}
 use Rattle.checks.specs.Checks.{all_finite}
 use Rattle.sgal3.specs.Elements as Elements
-use Rattle.sgal3_composition.specs.Calls.{Answer}
+use Rattle.sgal3_calls.specs.Composition.{Answer}
 use Rattle.handset.specs.Entries.{number, written}
 
 -- the element of an answer, where there is one, has finite values

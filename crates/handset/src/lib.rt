@@ -7,25 +7,27 @@ ghost use Rattle.std.specs.Prelude.{◌≡◌, ◌/◌, length};
 ghost use Rattle.checks.specs.Checks as Checks;
 ghost use Rattle.byte_chain.specs.Steps.{chain_after};
 ghost use Rattle.element_bytes.specs.Bytes.{values_at};
-ghost use Rattle.sgal3_composition.specs.Calls.{check_element, inverse_answer};
+ghost use Rattle.sgal3_calls.specs.Composition.{check_element, inverse_answer};
 ghost use Rattle.handset.specs.Entries as Entries;
 ghost use Rattle.handset.specs.Steps as Steps;
 
 use checks::Refusal;
+use element_bytes::ELEMENT_SIZE;
 use manifold::LieGroup;
-use sgal3::Element;
+use sgal3::{Element, REP_SIZE};
+use sgal3_calls::composition::MOST_BLOCKS;
 
-// 0 for an answer, or the refusal's number. An element is stored, and a refusal leaves out as it is. That out has 88 bytes is a clause, since C's blocks are
-// slices.
+// 0 for an answer, or the refusal's number. An element is stored, and a refusal leaves out as it is. That out is as long as an element is a clause, since C's
+// blocks are slices.
 #[tactic(auto, unfolding(crate::specs::Steps::Finite), using(crate::proofs::Outputs::stored))]
 fn finish(answer: Result<Element, Refusal>, out: &mut [u8]) -> u32
-    requires out_len { length out.old ≡ 88 }
+    requires out_len { length out.old ≡ ELEMENT_SIZE }
     requires finite { Steps.Finite answer }
     ensures { Steps.Stored answer out.old out.new result }
 {
     match answer {
         Ok(e) => {
-            element_bytes::put_element(out, e);
+            element_bytes::put_element(out, 0, e);
             0
         }
         Err(r) => r.number(),
@@ -47,9 +49,9 @@ fn first_or<'a>(first: &'a [u8], held: &'a [u8]) -> &'a [u8]
 // holds the first block, and for the chain. A function of its own, so that no answer goes through memory.
 #[tactic(auto, using(crate::proofs::FiniteValues::finite_values))]
 fn store_chain(first: &[u8], blocks: &[u8], tolerance: f64, out: &mut [u8]) -> u32
-    requires out_len { length (Steps.first_or first.now out.old) ≡ 88 }
-    requires out_len_2 { length out.old ≡ 88 }
-    ensures { Steps.Stored (chain_after tolerance (Steps.first_or first.now out.old) (length blocks.now / 88) blocks.now) out.old out.new result }
+    requires out_len { length (Steps.first_or first.now out.old) ≡ ELEMENT_SIZE }
+    requires out_len_2 { length out.old ≡ ELEMENT_SIZE }
+    ensures { Steps.Stored (chain_after tolerance (Steps.first_or first.now out.old) (length blocks.now / ELEMENT_SIZE) blocks.now) out.old out.new result }
 {
     let one = first_or(first, out);
     // a slice of its own, so that the compiler passes the parameter in registers
@@ -58,21 +60,21 @@ fn store_chain(first: &[u8], blocks: &[u8], tolerance: f64, out: &mut [u8]) -> u
 }
 
 // The element of a block, inverted, or why it is refused.
-#[tactic(auto, unfolding(sgal3_composition::specs::Calls::element_answer, sgal3_composition::specs::Calls::inverse_answer, manifold::specs::Answers::answered), using(byte_chain::proofs::ByteBlocks::first))]
+#[tactic(auto, unfolding(sgal3_calls::specs::Composition::element_answer, sgal3_calls::specs::Composition::inverse_answer, manifold::specs::Answers::answered), using(byte_chain::proofs::ByteBlocks::first))]
 fn inverse(block: &[u8], tolerance: f64) -> Result<Element, Refusal>
-    requires { length block.now ≡ 88 }
-    ensures { result ≡ inverse_answer (check_element (values_at 11 block.now 0) tolerance) }
+    requires { length block.now ≡ ELEMENT_SIZE }
+    ensures { result ≡ inverse_answer (check_element (values_at REP_SIZE block.now 0) tolerance) }
 {
-    element_bytes::check_values(block, 0, tolerance)?;
+    element_bytes::check_bytes(block, 0, tolerance)?;
     manifold::answered(element_bytes::element(block, 0).inverse())
 }
 
 // The number of the inverse, and the inverse stored; a function of its own as `store_chain` is.
 #[tactic(auto, using(crate::proofs::FiniteValues::finite_values))]
 fn store_inverse(block: &[u8], tolerance: f64, out: &mut [u8]) -> u32
-    requires block_len { length block.now ≡ 88 }
-    requires out_len { length out.old ≡ 88 }
-    ensures { Steps.Stored (inverse_answer (check_element (values_at 11 block.now 0) tolerance)) out.old out.new result }
+    requires block_len { length block.now ≡ ELEMENT_SIZE }
+    requires out_len { length out.old ≡ ELEMENT_SIZE }
+    ensures { Steps.Stored (inverse_answer (check_element (values_at REP_SIZE block.now 0) tolerance)) out.old out.new result }
 {
     let s = &block[0..];
     finish(inverse(s, tolerance), out)
@@ -84,13 +86,13 @@ fn store_inverse(block: &[u8], tolerance: f64, out: &mut [u8]) -> u32
 pub fn sgal3_compose_within(left: &[u8], right: &[u8], tolerance: f64, out: &mut [u8]) -> u32
     ensures { Entries.Answered (Entries.compose left.now right.now tolerance out.old) out.old out.new result }
 {
-    if out.len() != 88 {
+    if out.len() != ELEMENT_SIZE {
         return 1;
     }
-    if left.len() != 88 {
+    if left.len() != ELEMENT_SIZE {
         return 1;
     }
-    if right.len() != 88 {
+    if right.len() != ELEMENT_SIZE {
         return 1;
     }
     store_chain(left, right, tolerance, out)
@@ -101,10 +103,10 @@ pub fn sgal3_compose_within(left: &[u8], right: &[u8], tolerance: f64, out: &mut
 pub fn sgal3_compose_in_place_within(held: &mut [u8], step: &[u8], tolerance: f64) -> u32
     ensures { Entries.Answered (Entries.compose_in_place held.old step.now tolerance) held.old held.new result }
 {
-    if held.len() != 88 {
+    if held.len() != ELEMENT_SIZE {
         return 1;
     }
-    if step.len() != 88 {
+    if step.len() != ELEMENT_SIZE {
         return 1;
     }
     store_chain(b"", step, tolerance, held)
@@ -113,10 +115,10 @@ pub fn sgal3_compose_in_place_within(held: &mut [u8], step: &[u8], tolerance: f6
 pub fn sgal3_inverse_within(block: &[u8], tolerance: f64, out: &mut [u8]) -> u32
     ensures { Entries.Answered (Entries.inverse block.now tolerance out.old) out.old out.new result }
 {
-    if out.len() != 88 {
+    if out.len() != ELEMENT_SIZE {
         return 1;
     }
-    if block.len() != 88 {
+    if block.len() != ELEMENT_SIZE {
         return 1;
     }
     store_inverse(block, tolerance, out)
@@ -126,10 +128,14 @@ pub fn sgal3_inverse_within(block: &[u8], tolerance: f64, out: &mut [u8]) -> u32
 pub fn sgal3_chain_within(blocks: &[u8], tolerance: f64, out: &mut [u8]) -> u32
     ensures { Entries.Answered (Entries.chain blocks.now tolerance out.old) out.old out.new result }
 {
-    if out.len() != 88 {
+    if out.len() != ELEMENT_SIZE {
         return 1;
     }
-    if let Err(r) = checks::check_chain_length(blocks.len(), 88, 360448) {
+    if let Err(r) = checks::check_chain_length(
+        blocks.len(),
+        ELEMENT_SIZE,
+        MOST_BLOCKS * ELEMENT_SIZE,
+    ) {
         return r.number();
     }
     // the identity's bytes: 1.0 for the quaternion's w
@@ -144,25 +150,25 @@ pub fn sgal3_chain_within(blocks: &[u8], tolerance: f64, out: &mut [u8]) -> u32
 // ---- At 1e-6
 
 pub fn sgal3_compose(left: &[u8], right: &[u8], out: &mut [u8]) -> u32
-    ensures { Entries.Answered (Entries.compose left.now right.now Checks.tolerance out.old) out.old out.new result }
+    ensures { Entries.Answered (Entries.compose left.now right.now Checks.quaternion_norm_tolerance out.old) out.old out.new result }
 {
-    sgal3_compose_within(left, right, checks::tolerance(), out)
+    sgal3_compose_within(left, right, checks::quaternion_norm_tolerance(), out)
 }
 
 pub fn sgal3_compose_in_place(held: &mut [u8], step: &[u8]) -> u32
-    ensures { Entries.Answered (Entries.compose_in_place held.old step.now Checks.tolerance) held.old held.new result }
+    ensures { Entries.Answered (Entries.compose_in_place held.old step.now Checks.quaternion_norm_tolerance) held.old held.new result }
 {
-    sgal3_compose_in_place_within(held, step, checks::tolerance())
+    sgal3_compose_in_place_within(held, step, checks::quaternion_norm_tolerance())
 }
 
 pub fn sgal3_inverse(block: &[u8], out: &mut [u8]) -> u32
-    ensures { Entries.Answered (Entries.inverse block.now Checks.tolerance out.old) out.old out.new result }
+    ensures { Entries.Answered (Entries.inverse block.now Checks.quaternion_norm_tolerance out.old) out.old out.new result }
 {
-    sgal3_inverse_within(block, checks::tolerance(), out)
+    sgal3_inverse_within(block, checks::quaternion_norm_tolerance(), out)
 }
 
 pub fn sgal3_chain(blocks: &[u8], out: &mut [u8]) -> u32
-    ensures { Entries.Answered (Entries.chain blocks.now Checks.tolerance out.old) out.old out.new result }
+    ensures { Entries.Answered (Entries.chain blocks.now Checks.quaternion_norm_tolerance out.old) out.old out.new result }
 {
-    sgal3_chain_within(blocks, checks::tolerance(), out)
+    sgal3_chain_within(blocks, checks::quaternion_norm_tolerance(), out)
 }

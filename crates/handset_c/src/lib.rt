@@ -41,28 +41,28 @@ pub extern "C" fn sgal3_chain_within(blocks: &[u8], tolerance: f64, out: &mut [u
 
 #[unsafe(no_mangle)]
 pub extern "C" fn sgal3_compose(left: &[u8], right: &[u8], out: &mut [u8]) -> u32
-    ensures { Entries.Answered (Entries.compose left.now right.now Checks.tolerance out.old) out.old out.new result }
+    ensures { Entries.Answered (Entries.compose left.now right.now Checks.quaternion_norm_tolerance out.old) out.old out.new result }
 {
     handset::sgal3_compose(left, right, out)
 }
 
 #[unsafe(no_mangle)]
 pub extern "C" fn sgal3_compose_in_place(held: &mut [u8], step: &[u8]) -> u32
-    ensures { Entries.Answered (Entries.compose_in_place held.old step.now Checks.tolerance) held.old held.new result }
+    ensures { Entries.Answered (Entries.compose_in_place held.old step.now Checks.quaternion_norm_tolerance) held.old held.new result }
 {
     handset::sgal3_compose_in_place(held, step)
 }
 
 #[unsafe(no_mangle)]
 pub extern "C" fn sgal3_inverse(block: &[u8], out: &mut [u8]) -> u32
-    ensures { Entries.Answered (Entries.inverse block.now Checks.tolerance out.old) out.old out.new result }
+    ensures { Entries.Answered (Entries.inverse block.now Checks.quaternion_norm_tolerance out.old) out.old out.new result }
 {
     handset::sgal3_inverse(block, out)
 }
 
 #[unsafe(no_mangle)]
 pub extern "C" fn sgal3_chain(blocks: &[u8], out: &mut [u8]) -> u32
-    ensures { Entries.Answered (Entries.chain blocks.now Checks.tolerance out.old) out.old out.new result }
+    ensures { Entries.Answered (Entries.chain blocks.now Checks.quaternion_norm_tolerance out.old) out.old out.new result }
 {
     handset::sgal3_chain(blocks, out)
 }

@@ -14,9 +14,9 @@ use Rattle.law.specs.Galilean.{Element, Tangent}
 use Rattle.ring.specs.Ring.{Ring}
 use Rattle.ring.proofs.Solver.{Expr, var, zer, one, sum, product, minus, same_by, eval, solve-by}
 
--- no identity here divides or takes a root
-abbrev pub written : Arithmetic Expr
-written =
+-- over expressions, by a given quotient; no identity here takes a root
+abbrev pub written_by : (Expr → Expr → Expr) → Arithmetic Expr
+written_by quotient =
     record {
       zero = zer;
       one = one;
@@ -25,24 +25,17 @@ written =
       sub = λ a b. sum a (minus b);
       mul = product;
       neg = minus;
-      div = λ a b. a;
+      div = quotient;
       root = λ a. a;
     }
 
--- the same where ½ is unknown i, and nothing else is divided
+-- where nothing is divided
+abbrev pub written : Arithmetic Expr
+written = written_by (λ a b. a)
+
+-- where ½ is unknown i, and nothing else is divided
 abbrev pub written_with_half : ℕ → Arithmetic Expr
-written_with_half i =
-    record {
-      zero = zer;
-      one = one;
-      two = sum one one;
-      add = sum;
-      sub = λ a b. sum a (minus b);
-      mul = product;
-      neg = minus;
-      div = λ a b. var i;
-      root = λ a. a;
-    }
+written_with_half i = written_by (λ a b. var i)
 
 -- unknowns, from number i on
 abbrev pub vector : ℕ → Vector Expr

@@ -15,7 +15,7 @@ module _ {A : Type 0} (o : Arithmetic A) where
   unfoldable pub exp : Vector A → Quaternion A
   exp θ = Rotation.unit_quaternion o (record { w = 𝟙; x = div θ.x 𝟚; y = div θ.y 𝟚; z = div θ.z 𝟚 })
 
-  -- the vector part of a unit quaternion times k, which is 2, or -2 where w < 0
+  -- the vector part of a unit quaternion times k, log's coefficient: in the series 2, or -2 where w < 0
   unfoldable pub log_by : A → Quaternion A → Vector A
   log_by k q = Vector.scale o (Quaternion.vector o q) k
 

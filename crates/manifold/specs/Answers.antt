@@ -28,6 +28,6 @@ leaves_series squared = lt (of_bits binary64 0x3ddb_7cdf_d9d7_bdbb) squared
 unfoldable pub turn_too_large : Float → Bool
 turn_too_large squared = lt (of_bits binary64 0x4022_0000_0000_0000) squared
 
--- the turn test: 4 where a call can't take the turn, or the number
+-- the turn test, of a turn or of a number's magnitude that is too large: 4
 unfoldable pub within : Bool → Check
 within refused = cond refused (Err Turn) passed

@@ -10,8 +10,8 @@ use Rattle.manifold.specs.Answers.{within}
 -- a group of elements G with tangents T; its Jacobians are matrices J, that of act with respect to the element a matrix P; the short form of an adjoint is a D
 pub record Group (G T J P D : Type 0) : Type 0 where
   -- a block of so many values, the place of its quaternion, and the element of any such values
-  pub dim : ℕ
-  pub quaternion : ℕ
+  pub rep_size : ℕ
+  pub quaternion_place : ℕ
   pub element_of : List Float → G
   pub identity : G
   pub compose : G → G → G
@@ -47,11 +47,11 @@ pub record Tangents (G T J A : Type 0) : Type 0 where
 
 -- ---- blocks
 unfoldable pub validate_params : {G T J P D : Type 0} → Group G T J P D → List Float → Float → Check
-validate_params g s tolerance = check_param_block s g.dim g.quaternion tolerance
+validate_params g s tolerance = check_param_block s g.rep_size g.quaternion_place tolerance
 
 -- the element of any values: a wrong length alone is refused
 unfoldable pub from_param_slice : {G T J P D : Type 0} → Group G T J P D → List Float → Result G Refusal
-from_param_slice g s = and_then (check_length s g.dim) (λ _. Ok (g.element_of s))
+from_param_slice g s = and_then (check_length s g.rep_size) (λ _. Ok (g.element_of s))
 
 -- the element of a block, or why the block is refused
 unfoldable pub try_from_param_slice : {G T J P D : Type 0} → Group G T J P D → List Float → Float → Result G Refusal

@@ -1,5 +1,5 @@
 // The Lie groups of lib.rs as traits: what SO(3) and SGal(3) have in common. An operation by value answers any input; the calls on blocks,
-// with their refusals, are in `manifold_blocks`.
+// with their refusals, are in `manifold_calls`.
 #![tactic(auto)]
 
 ghost use Rattle.std.specs.Prelude.{◌≡◌, refl, ◌+◌, ◌≤◌, List, [], ◌∷◌, length, Float};
@@ -9,13 +9,13 @@ ghost use Rattle.linear.specs.Records as Records;
 ghost use Rattle.manifold.specs.Answers as Answers;
 ghost use Rattle.manifold.specs.Group as Group;
 ghost use Rattle.manifold.specs.Operations as Operations;
-ghost use Rattle.sgal3_rows.proofs.Opened.{opened-finite};
-ghost use Rattle.sgal3_rows.specs.Adjoints as Adjoints;
-ghost use Rattle.sgal3_rows.specs.TenRows as TenRows;
+ghost use Rattle.ten_rows.proofs.Opened.{opened-finite};
+ghost use Rattle.ten_rows.specs.Adjoints as Adjoints;
+ghost use Rattle.ten_rows.specs.TenRows as TenRows;
 
 use checks::Refusal;
 use linear::{Mat3, Quaternion, Vec3};
-use sgal3_rows::Adjoint;
+use ten_rows::Adjoint;
 
 // ---- What is answered
 
@@ -107,7 +107,7 @@ impl Values for [[f64; 10]; 10] {
     ghost values = { TenRows.values };
 
     fn is_finite(&self) -> bool {
-        sgal3_rows::all_finite(self)
+        ten_rows::all_finite(self)
     }
 }
 
@@ -141,7 +141,7 @@ pub fn turn_too_large(squared: f64) -> bool
     squared > 9.0
 }
 
-// The turn test: 4 where a call can't take the turn, or the number.
+// The turn test, of a turn or of a number's magnitude that is too large: 4.
 #[tactic(auto, unfolding(crate::specs::Answers::within))]
 pub fn within(refused: bool) -> Result<(), Refusal>
     ensures { result ≡ Answers.within refused }
@@ -171,7 +171,7 @@ impl Jacobian for [[f64; 10]; 10] {
     ghost negated = { TenRows.neg };
 
     fn neg(self) -> [[f64; 10]; 10] {
-        sgal3_rows::neg(self)
+        ten_rows::neg(self)
     }
 }
 
@@ -205,7 +205,7 @@ impl ShortForm for Mat3 {
 impl Values for Adjoint {
     ghost values = { Adjoints.values };
 
-    #[tactic(auto, using(sgal3_rows::proofs::Opened::values_finite))]
+    #[tactic(auto, using(ten_rows::proofs::Opened::values_finite))]
     fn is_finite(&self) -> bool {
         self.rotation.is_finite()
             && self.rho_nu.is_finite()
@@ -318,15 +318,15 @@ pub trait LieGroup: Values {
     ghost group: { Group.Group Self Self.TangentVector Self.JacobianMatrix Self.ActJacobian Self.Adjoint };
 
     // How many values a block has, and the place of its quaternion.
-    fn dim() -> usize
-        ensures { result ≡ group.dim };
+    fn rep_size() -> usize
+        ensures { result ≡ group.rep_size };
 
-    fn quaternion() -> usize
-        ensures value { result ≡ group.quaternion }
-        ensures fits { group.quaternion + 4 ≤ group.dim };
+    fn quaternion_place() -> usize
+        ensures value { result ≡ group.quaternion_place }
+        ensures fits { group.quaternion_place + 4 ≤ group.rep_size };
 
     fn element_of(s: &[f64]) -> Self
-        requires { length s.now ≡ group.dim }
+        requires { length s.now ≡ group.rep_size }
         ensures { result ≡ group.element_of s.now };
 
     // Any values: refuses a wrong length only.
@@ -334,7 +334,7 @@ pub trait LieGroup: Values {
     fn from_param_slice(s: &[f64]) -> Result<Self, Refusal>
         ensures { result ≡ Group.from_param_slice group s.now }
     {
-        checks::check_length(s, Self::dim())?;
+        checks::check_length(s, Self::rep_size())?;
         Ok(Self::element_of(s))
     }
 
@@ -343,7 +343,7 @@ pub trait LieGroup: Values {
     fn validate_params(s: &[f64], tolerance: f64) -> Result<(), Refusal>
         ensures { result ≡ Group.validate_params group s.now tolerance }
     {
-        checks::check_param_block(s, Self::dim(), Self::quaternion(), tolerance)
+        checks::check_param_block(s, Self::rep_size(), Self::quaternion_place(), tolerance)
     }
 
     // The element of a block that is not refused.

@@ -18,7 +18,7 @@ use Rattle.checks.specs.Checks.{Check, passed}
 use Rattle.checks.specs.Outcomes.{outcome}
 use Rattle.checks.specs.declared.Refusal.{Refusal}
 use Rattle.manifold.specs.Outcomes.{valid}
-use Rattle.sgal3_rows.specs.TenRows.{values}
+use Rattle.ten_rows.specs.TenRows.{values}
 use Rattle.outcomes.specs.Outcomes.{pair, four, header, header_of, bytes, bits, of_values, of_check, word_of, of_valid, of, of_refusal}
 
 bytes-length : (n : ℕ) → length (bytes_of n) ≡ 8

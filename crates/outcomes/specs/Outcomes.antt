@@ -1,26 +1,27 @@
 -- The outcome of a call's answer, as bytes. Definitions only.
-use Rattle.std.specs.Prelude.{ℕ, ◌≤◌, ◌≡◌, Bool, cond, List, [], ◌++◌, map, length, Option, Some, None, Result, Err, Float}
+use Rattle.std.specs.Prelude.{ℕ, ◌+◌, ◌*◌, ◌≤◌, ◌≡◌, Bool, cond, List, [], ◌++◌, map, length, Option, Some, None, Result, Err, Float}
 use Rattle.std.proofs.lemmas.List.Edits.{sets}
 use Rattle.std.specs.Float.{binary64}
 use Rattle.std.specs.Float.Ieee.{of_bits, to_bits}
 use Rattle.words.specs.Word.{bytes_of, word_bytes}
-use Rattle.checks.specs.Refusals.{Figures, none, lengths, norm}
 use Rattle.checks.specs.Outcomes.{Outcome, outcome}
 use Rattle.checks.specs.Checks.{Check}
+use Rattle.checks.specs.declared.Figures.{Figures}
+use Rattle.checks.specs.declared.Figures.TheVariants as Figures
 use Rattle.checks.specs.declared.Refusal.{Refusal}
 use Rattle.manifold.specs.Outcomes.{beside, valid}
 use Rattle.outcomes.specs.declared.Request.{Request}
 
 -- ---- words
 unfoldable pub first_figure : Figures → ℕ
-first_figure none = 0
-first_figure (lengths expected actual) = expected
-first_figure (norm n) = to_bits binary64 n
+first_figure Figures.None = 0
+first_figure (Figures.Lengths expected actual) = expected
+first_figure (Figures.Norm norm) = to_bits binary64 norm
 
 unfoldable pub second_figure : Figures → ℕ
-second_figure none = 0
-second_figure (lengths expected actual) = actual
-second_figure (norm n) = 0
+second_figure Figures.None = 0
+second_figure (Figures.Lengths expected actual) = actual
+second_figure (Figures.Norm norm) = 0
 
 unfoldable pub pair : ℕ → ℕ → List ℕ
 pair a b = bytes_of a ++ bytes_of b
@@ -68,6 +69,10 @@ of values n answer = of_values (beside values n answer)
 
 unfoldable pub of_refusal : Refusal → ℕ → List ℕ
 of_refusal r n = of (λ (s : List Float). s) n (Err r)
+
+-- the longest outcome: the header and a hundred values
+abbrev pub longest : ℕ
+longest = 32 + 100 * 8
 
 -- n bytes, at the start of what held `before` and holds `after`; they fit there
 pub record Put (n : ℕ) (before after bytes : List ℕ) : Type 0 where

@@ -3,15 +3,14 @@
 
 ghost use Rattle.std.specs.Prelude.{◌≡◌, ℕ, ◌+◌, ◌*◌, ◌≤◌, length};
 ghost use Rattle.std.proofs.lemmas.List.Edits.{sets};
-ghost use Rattle.checks.specs.Refusals as Refusals;
 ghost use Rattle.linear.specs.Records.{matrix_values};
-ghost use Rattle.sgal3_rows.specs.TenRows as TenRows;
+ghost use Rattle.ten_rows.specs.TenRows as TenRows;
 ghost use Rattle.outcomes.specs.Outcomes as Outcomes;
 
-use checks::Refusal;
+use checks::{Figures, Refusal};
 use linear::{Mat3, Vec3};
 use manifold::Values;
-use sgal3_rows::Adjoint;
+use ten_rows::Adjoint;
 
 // The number of a call, its two blocks, and a word besides: the bits of a tolerance, or of a generator its place. The number is the format's own: an
 // enum of the calls would list them a second time.
@@ -34,36 +33,35 @@ impl Request<'_> {
 
 // ---- Words. An outcome has two figures; a refusal with fewer has 0 there, as the format says.
 
-#[tactic(auto, unfolding(crate::specs::Outcomes::first_figure, checks::specs::Refusals::figures))]
-fn first_figure(r: Refusal) -> u64
-    ensures { result ≡ Outcomes.first_figure (Refusals.figures r) }
+#[tactic(auto, unfolding(crate::specs::Outcomes::first_figure))]
+fn first_figure(figures: Figures) -> u64
+    ensures { result ≡ Outcomes.first_figure figures }
 {
-    match r {
-        Refusal::Length {
+    match figures {
+        Figures::None => 0,
+        Figures::Lengths {
             expected,
             actual: _,
         } => expected as u64,
-        Refusal::NotUnit(norm) => words::to_bits(norm),
-        Refusal::NotFinite | Refusal::Turn | Refusal::Overflow | Refusal::Tolerance => 0,
+        Figures::Norm(norm) => words::to_bits(norm),
     }
 }
 
-#[tactic(auto, unfolding(crate::specs::Outcomes::second_figure, checks::specs::Refusals::figures))]
-fn second_figure(r: Refusal) -> u64
-    ensures { result ≡ Outcomes.second_figure (Refusals.figures r) }
+#[tactic(auto, unfolding(crate::specs::Outcomes::second_figure))]
+fn second_figure(figures: Figures) -> u64
+    ensures { result ≡ Outcomes.second_figure figures }
 {
-    match r {
-        Refusal::Length {
+    match figures {
+        Figures::None | Figures::Norm(_) => 0,
+        Figures::Lengths {
             expected: _,
             actual,
         } => actual as u64,
-        Refusal::NotUnit(_)
-        | Refusal::NotFinite
-        | Refusal::Turn
-        | Refusal::Overflow
-        | Refusal::Tolerance => 0,
     }
 }
+
+// The header: four words.
+pub const HEADER: usize = 32;
 
 // Two words, from `at` on.
 fn put_pair(out: &mut [u8], at: usize, a: u64, b: u64)
@@ -75,7 +73,7 @@ fn put_pair(out: &mut [u8], at: usize, a: u64, b: u64)
 }
 
 fn put_four(out: &mut [u8], a: u64, b: u64, c: u64, d: u64)
-    requires { 32 ≤ length out.old }
+    requires { HEADER ≤ length out.old }
     ensures { out.new ≡ sets out.old 0 (Outcomes.four a b c d) }
 {
     put_pair(out, 0, a, b);
@@ -85,12 +83,21 @@ fn put_four(out: &mut [u8], a: u64, b: u64, c: u64, d: u64)
 // The header of an answer with n values.
 #[tactic(auto, unfolding(crate::specs::Outcomes::header_of, crate::specs::Outcomes::header, crate::specs::Outcomes::first_figure, crate::specs::Outcomes::second_figure, checks::specs::Outcomes::outcome))]
 fn put_header(out: &mut [u8], c: Result<(), Refusal>, n: u64)
-    requires { 32 ≤ length out.old }
+    requires { HEADER ≤ length out.old }
     ensures { out.new ≡ sets out.old 0 (Outcomes.header_of c n) }
 {
     match c {
         Ok(()) => put_four(out, 0, 0, 0, n),
-        Err(r) => put_four(out, r.number() as u64, first_figure(r), second_figure(r), n),
+        Err(r) => {
+            let figures = r.figures();
+            put_four(
+                out,
+                r.number() as u64,
+                first_figure(figures),
+                second_figure(figures),
+                n,
+            )
+        }
     }
 }
 
@@ -105,23 +112,26 @@ fn put_values(out: &mut [u8], at: usize, values: &[f64])
 
 // ---- An outcome: how many bytes it is, and the bytes at the start of out. There is no heap, so the buffer is the caller's.
 
+// The longest outcome: the header and a hundred values.
+pub const LONGEST: usize = HEADER + 100 * 8;
+
 // Without values.
-pub fn put_check(out: &mut [u8; 832], c: Result<(), Refusal>) -> usize
+pub fn put_check(out: &mut [u8; LONGEST], c: Result<(), Refusal>) -> usize
     ensures { Outcomes.Put result out.old out.new (Outcomes.of_check c) }
 {
     put_header(out, c, 0);
-    32
+    HEADER
 }
 
 // A yes or no is a word, 1 for yes.
 #[tactic(auto, unfolding(crate::specs::Outcomes::word_of))]
-pub fn put_valid(out: &mut [u8; 832], answer: Result<bool, Refusal>) -> usize
+pub fn put_valid(out: &mut [u8; LONGEST], answer: Result<bool, Refusal>) -> usize
     ensures { Outcomes.Put result out.old out.new (Outcomes.of_valid answer) }
 {
     match answer {
         Ok(b) => {
             put_header(out, Ok(()), 1);
-            words::put_word(out, 32, u64::from(b));
+            words::put_word(out, HEADER, u64::from(b));
             40
         }
         Err(r) => put_check(out, Err(r)),
@@ -140,26 +150,26 @@ pub trait ToWords: Values {
 
     // After the header.
     fn store(&self, out: &mut [u8])
-        requires { 32 + COUNT * 8 ≤ length out.old }
+        requires { HEADER + COUNT * 8 ≤ length out.old }
         ensures count { length (Self.values self.now) ≡ COUNT }
-        ensures stored { out.new ≡ sets out.old 32 (Outcomes.bits (Self.values self.now)) };
+        ensures stored { out.new ≡ sets out.old HEADER (Outcomes.bits (Self.values self.now)) };
 }
 
 // The +0 are taken from an array of a hundred.
 fn put_refusal(out: &mut [u8], r: Refusal, zeros: usize) -> usize
     requires most { zeros ≤ 100 }
-    requires fits { 32 + zeros * 8 ≤ length out.old }
+    requires fits { HEADER + zeros * 8 ≤ length out.old }
     ensures { Outcomes.Put result out.old out.new (Outcomes.of_refusal r zeros) }
 {
     put_header(out, Err(r), zeros as u64);
-    put_values(out, 32, &[0.0; 100][..zeros]);
-    32 + zeros * 8
+    put_values(out, HEADER, &[0.0; 100][..zeros]);
+    HEADER + zeros * 8
 }
 
 // Into an array with room for it.
 pub fn put<A: ToWords, const N: usize>(out: &mut [u8; N], answer: Result<A, Refusal>) -> usize
-    requires count_fits { 32 + A.COUNT * 8 ≤ N }
-    requires zeros_fit { 32 + A.ZEROS * 8 ≤ N }
+    requires count_fits { HEADER + A.COUNT * 8 ≤ N }
+    requires zeros_fit { HEADER + A.ZEROS * 8 ≤ N }
     requires most { A.ZEROS ≤ 100 }
     ensures { Outcomes.Put result out.old out.new (Outcomes.of A.values A.ZEROS answer) }
 {
@@ -167,7 +177,7 @@ pub fn put<A: ToWords, const N: usize>(out: &mut [u8; N], answer: Result<A, Refu
         Ok(a) => {
             put_header(out, Ok(()), A::COUNT as u64);
             a.store(out);
-            32 + A::COUNT * 8
+            HEADER + A::COUNT * 8
         }
         Err(r) => put_refusal(out, r, A::ZEROS),
     }
@@ -185,7 +195,7 @@ impl ToWords for f64 {
     ghost ZEROS = { 0 };
 
     fn store(&self, out: &mut [u8]) {
-        put_values(out, 32, &[*self]);
+        put_values(out, HEADER, &[*self]);
     }
 }
 
@@ -199,7 +209,7 @@ impl ToWords for Vec3 {
     ghost ZEROS = { 0 };
 
     fn store(&self, out: &mut [u8]) {
-        put_values(out, 32, &manifold::vector_values(*self));
+        put_values(out, HEADER, &manifold::vector_values(*self));
     }
 }
 
@@ -213,7 +223,7 @@ impl ToWords for Mat3 {
     ghost ZEROS = { 9 };
 
     fn store(&self, out: &mut [u8]) {
-        put_matrix(out, 32, *self);
+        put_matrix(out, HEADER, *self);
     }
 }
 
@@ -228,7 +238,7 @@ impl<const N: usize> ToWords for [f64; N] {
     ghost ZEROS = { N };
 
     fn store(&self, out: &mut [u8]) {
-        put_values(out, 32, self);
+        put_values(out, HEADER, self);
     }
 }
 
@@ -257,7 +267,7 @@ impl ToWords for Adjoint {
     ghost ZEROS = { 39 };
 
     fn store(&self, out: &mut [u8]) {
-        put_matrix(out, 32, self.rotation);
+        put_matrix(out, HEADER, self.rotation);
         put_matrix(out, 104, self.rho_nu);
         put_matrix(out, 176, self.rho_theta);
         put_matrix(out, 248, self.nu_theta);
@@ -276,7 +286,7 @@ impl ToWords for so3::Element {
     ghost ZEROS = { 0 };
 
     fn store(&self, out: &mut [u8]) {
-        put_values(out, 32, &self.coeffs());
+        put_values(out, HEADER, &self.coeffs());
     }
 }
 
@@ -305,7 +315,7 @@ impl ToWords for sgal3::Element {
     ghost ZEROS = { 0 };
 
     fn store(&self, out: &mut [u8]) {
-        put_values(out, 32, &self.coeffs());
+        put_values(out, HEADER, &self.coeffs());
     }
 }
 
@@ -319,7 +329,7 @@ impl ToWords for sgal3::Tangent {
     ghost ZEROS = { 0 };
 
     fn store(&self, out: &mut [u8]) {
-        put_values(out, 32, &self.coeffs());
+        put_values(out, HEADER, &self.coeffs());
     }
 }
 
@@ -340,11 +350,11 @@ fn put_matrix(out: &mut [u8], at: usize, m: Mat3)
 }
 
 fn put_rows(out: &mut [u8], rows: &[[f64; 10]; 10])
-    requires { 832 ≤ length out.old }
+    requires { Outcomes.longest ≤ length out.old }
     ensures count { length (TenRows.values rows.now) ≡ 100 }
-    ensures stored { out.new ≡ sets out.old 32 (Outcomes.bits (TenRows.values rows.now)) }
+    ensures stored { out.new ≡ sets out.old HEADER (Outcomes.bits (TenRows.values rows.now)) }
 {
     for (k, row) in rows.iter().enumerate() {
-        put_row(out, 32 + k * 80, row);
+        put_row(out, HEADER + k * 80, row);
     }
 }

@@ -8,20 +8,20 @@ use borrow.Author.Tests.{ltb-true, ltb-false}
 use lib.Dec.{ltb}
 use lib.ListN.{length, take}
 use lib.Seq.{take_all, length-take-le}
-use Rattle.checks.specs.Checks.{tolerance}
+use Rattle.checks.specs.Checks.{quaternion_norm_tolerance}
 use Rattle.checks.specs.Refusals.{number}
 use Rattle.checks.specs.declared.Refusal.TheVariants.{Length}
 use Rattle.byte_chain.proofs.Chains as Chains
-use Rattle.report_lines.specs.Lines.{refusal}
-use Rattle.report.specs.Text.{report_of}
+use Rattle.report_text.specs.Lines.{refusal}
+use Rattle.report.specs.Text.{most_bytes, space, report_of}
 use Rattle.report.proofs.Printed.{refused-text}
 
-too_long : (s : List ℕ) → 65472 < length s → report_of s ≡ refusal 1
+too_long : (s : List ℕ) → most_bytes < length s → report_of s ≡ refusal 1
 unfolding report_of number
-too_long s h = rw (Chains.too_long tolerance 65472 s h) (refused-text (Length 65472 (length s)))
+too_long s h = rw (Chains.too_long quaternion_norm_tolerance most_bytes s h) (refused-text (Length most_bytes (length s)))
 
 -- whatever number of bytes above the longest chain's is read
-pub enough : (m : ℕ) (s : List ℕ) → 65472 < m → report_of (take m s) ≡ report_of s
+pub enough : (m : ℕ) (s : List ℕ) → most_bytes < m → report_of (take m s) ≡ report_of s
 enough m s h = go (ltb (length s) m) refl
   where
     go : (b : Bool) → ltb (length s) m ≡ b → report_of (take m s) ≡ report_of s
@@ -31,5 +31,5 @@ enough m s h = go (ltb (length s) m) refl
         let n : length (take m s) ≡ m = length-take-le m s l in
         too_long (take m s) (omega arith) ∙ sym (too_long s (omega arith))
 
-pub one-byte-more : (s : List ℕ) → report_of (take 65473 s) ≡ report_of s
-one-byte-more s = enough 65473 s (omega arith)
+pub one-byte-more : (s : List ℕ) → report_of (take space s) ≡ report_of s
+one-byte-more s = enough space s (omega arith)

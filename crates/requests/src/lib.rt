@@ -1,5 +1,5 @@
 // A request answered: every public call by its number, on blocks of values, and its outcome as bytes. None where there is no such call.
-// docs/TESTING.md has the numbers, which are the format's: an enum or a table of the calls would list them a second time, and functions of one type would
+// `make calls` lists the numbers, which are the format's: an enum or a table of the calls would list them a second time, and functions of one type would
 // hide their contracts. Each range of them has a crate of its own. Calls that differ in their group alone, as 0 and 1, have numbers of their own.
 #![tactic(auto)]
 
@@ -7,11 +7,11 @@ ghost use Rattle.outcomes.specs.Outcomes as Outcomes;
 ghost use Rattle.requests.specs.Requests as Requests;
 
 use manifold::LieGroup;
-use outcomes::Request;
+use outcomes::{LONGEST, Request};
 
 // The checks of a block, and an element as given.
-#[tactic(auto, unfolding(crate::specs::Requests::check_call, outcomes::specs::Outcomes::Answered, manifold::specs::Group::validate_params, checks::specs::Checks::validate_sgal3_params, checks::specs::Checks::validate_so3_params))]
-fn check_call(r: Request<'_>, out: &mut [u8; 832]) -> Option<usize>
+#[tactic(auto, unfolding(crate::specs::Requests::check_call, outcomes::specs::Outcomes::Answered))]
+fn check_call(r: Request<'_>, out: &mut [u8; LONGEST]) -> Option<usize>
     ensures { Outcomes.Answered result out.old out.new (Requests.check_call r.entry) }
 {
     match r.call {
@@ -23,14 +23,14 @@ fn check_call(r: Request<'_>, out: &mut [u8; 832]) -> Option<usize>
 }
 
 #[tactic(auto, unfolding(crate::specs::Requests::answer, outcomes::specs::Outcomes::Answered))]
-pub fn answer(r: Request<'_>, out: &mut [u8; 832]) -> Option<usize>
+pub fn answer(r: Request<'_>, out: &mut [u8; LONGEST]) -> Option<usize>
     ensures { Outcomes.Answered result out.old out.new (Requests.answer r.entry) }
 {
     if r.call < 10 {
         return check_call(r, out);
     }
     if r.call < 70 {
-        return rotation_requests::answer(r, out);
+        return so3_requests::answer(r, out);
     }
-    galilean_requests::answer(r, out)
+    sgal3_requests::answer(r, out)
 }

@@ -7,8 +7,8 @@ use Rattle.law.specs.Galilean as Law
 use Rattle.law.specs.Filled as Filled
 use Rattle.law.proofs.Filled.{opened-filled}
 use Rattle.manifold.specs.Operations as Operations
-use Rattle.sgal3_rows.specs.Adjoints.{opened}
-use Rattle.sgal3_rows.specs.TenRows.{neg}
+use Rattle.ten_rows.specs.Adjoints.{opened}
+use Rattle.ten_rows.specs.TenRows.{neg}
 use Rattle.sgal3.specs.Elements as Elements
 use Rattle.sgal3.specs.Elements.{element}
 use Rattle.sgal3.specs.Tangents as Tangents

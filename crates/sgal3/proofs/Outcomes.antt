@@ -7,9 +7,9 @@ use Rattle.law.specs.Rounded.{rounded}
 use Rattle.checks.specs.Outcomes.{result}
 use Rattle.manifold.specs.Answers.{answered}
 use Rattle.manifold.proofs.Outcomes.{answered-outcome}
-use Rattle.sgal3_rows.specs.Adjoints as Adjoints
-use Rattle.sgal3_rows.specs.TenRows as TenRows
-use Rattle.sgal3_rows.specs.declared.Adjoint.{Adjoint}
+use Rattle.ten_rows.specs.Adjoints as Adjoints
+use Rattle.ten_rows.specs.TenRows as TenRows
+use Rattle.ten_rows.specs.declared.Adjoint.{Adjoint}
 use Rattle.sgal3.specs.Tangents as Tangents
 use Rattle.sgal3.specs.Outcomes.{tangent, short_adjoint, matrix10}
 use Rattle.sgal3.specs.declared.Tangent.{Tangent}

@@ -9,7 +9,7 @@ use Rattle.linear.specs.Vectors as Vectors
 use Rattle.linear.specs.Matrices as Linear
 use Rattle.linear.specs.declared.Vec3.{Vec3}
 use Rattle.linear.specs.declared.Mat3.{Mat3}
-use Rattle.so3.specs.Tangents as So3
+use Rattle.so3.specs.Tangents as So3Tangents
 use Rattle.sgal3.specs.Tangents.{tangent, of_tangent}
 use Rattle.sgal3.specs.declared.Tangent.{Tangent}
 
@@ -44,4 +44,4 @@ generator i =
     cond (ltb i 3) (lie_algebra Linear.zero (axis i) Vectors.zero rounded.zero)
     (cond (ltb i 6) (lie_algebra Linear.zero Vectors.zero (axis (i - 3)) rounded.zero)
     (cond (eqb i 9) (lie_algebra Linear.zero Vectors.zero Vectors.zero rounded.one)
-    (lie_algebra (So3.generator (i - 6)) Vectors.zero Vectors.zero rounded.zero)))
+    (lie_algebra (So3Tangents.generator (i - 6)) Vectors.zero Vectors.zero rounded.zero)))

@@ -1,20 +1,20 @@
 -- Elements of SGal(3): the formulas of the group at the rounded operations, and the eleven values of a block. Definitions only.
-use Rattle.std.specs.Prelude.{Bool, ◌&&◌, List, [], ◌∷◌, get_or, Float}
+use Rattle.std.specs.Prelude.{ℕ, Bool, ◌&&◌, List, [], ◌∷◌, get_or, Float}
 use Rattle.std.specs.Float.{nan}
 use Rattle.law.specs.Rounded.{rounded}
 use Rattle.law.specs.Rotation as Rotation
 use Rattle.law.specs.Galilean as Law
-use Rattle.law.specs.GalileanSeries as Series
+use Rattle.law.specs.GalileanSeries as GalileanSeries
 use Rattle.checks.specs.Checks.{all_finite}
 use Rattle.linear.specs.Records.{vector, vec3, quaternion, of_quaternion, matrix, mat3}
 use Rattle.linear.specs.declared.Vec3.{Vec3}
 use Rattle.linear.specs.declared.Quaternion.{Quaternion}
 use Rattle.linear.specs.declared.Mat3.{Mat3}
 use Rattle.manifold.specs.Answers.{vector_at, quaternion_at}
-use Rattle.so3.specs.Elements as So3
-use Rattle.so3.specs.Tangents as So3-as-Tangents
+use Rattle.so3.specs.Elements as So3Elements
+use Rattle.so3.specs.Tangents as So3Tangents
 use Rattle.so3.specs.declared.Tangent as Turns
-use Rattle.so3.specs.declared.Element.{Element as So3-as-Element}
+use Rattle.so3.specs.declared.Element.{Element as So3Element}
 use Rattle.sgal3.specs.Tangents.{of_tangent, s_nu_coupling}
 use Rattle.sgal3.specs.declared.Element.{Element}
 use Rattle.sgal3.specs.declared.Tangent.{Tangent}
@@ -30,7 +30,7 @@ unfoldable pub identity : Element
 identity = of_element (Law.identity rounded)
 
 -- normalised once
-unfoldable pub rotation_impl : Element → So3-as-Element
+unfoldable pub rotation_impl : Element → So3Element
 rotation_impl a = record { params = of_quaternion (Law.rotation_impl rounded (element a)) }
 
 -- and once more
@@ -56,14 +56,18 @@ act a p = vec3 (Law.act rounded (element a) (vector p))
 unfoldable pub is_valid : Element → Float → Bool
 is_valid a tolerance =
     all_finite (a.translation.x ∷ a.translation.y ∷ a.translation.z ∷ a.velocity.x ∷ a.velocity.y ∷ a.velocity.z ∷ a.time ∷ [])
-    && So3.is_valid (rotation_impl a) tolerance
+    && So3Elements.is_valid (rotation_impl a) tolerance
 
 -- ---- log: by the rotation's log t, and the inverse of the left Jacobian and M of its theta
 unfoldable pub log_by : Turns.Tangent → Mat3 → Mat3 → Element → Tangent
-log_by t j m a = of_tangent (Series.log_by rounded (matrix j) (matrix m) (vector t.theta) (element a))
+log_by t j m a = of_tangent (GalileanSeries.log_by rounded (matrix j) (matrix m) (vector t.theta) (element a))
 
 unfoldable pub log : Element → Tangent
-log a = let t = So3.log (rotation_impl a) in log_by t (So3-as-Tangents.left_jacobian_inv t) (s_nu_coupling t) a
+log a = let t = So3Elements.log (rotation_impl a) in log_by t (So3Tangents.left_jacobian_inv t) (s_nu_coupling t) a
+
+-- how many values an element has
+abbrev pub rep_size : ℕ
+rep_size = 11
 
 -- translation, quaternion w, x, y, z, velocity, time
 unfoldable pub coeffs : Element → List Float

@@ -1,8 +1,8 @@
 -- SGal(3) as a group with its tangents. Definitions only.
 use Rattle.std.specs.Prelude.{Bool, List, Float}
 use Rattle.manifold.specs.Group as Manifold
-use Rattle.sgal3_rows.specs.declared.Adjoint.{Adjoint}
-use Rattle.so3.specs.Tangents as So3-as-Tangents
+use Rattle.ten_rows.specs.declared.Adjoint.{Adjoint}
+use Rattle.so3.specs.Tangents as So3Tangents
 use Rattle.sgal3.specs.Elements as Elements
 use Rattle.sgal3.specs.Tangents as Tangents
 use Rattle.sgal3.specs.Matrices as Matrices
@@ -12,13 +12,13 @@ use Rattle.sgal3.specs.declared.Tangent.{Tangent}
 
 -- the squared theta is tested
 unfoldable pub turn_too_large : Tangent → Bool
-turn_too_large t = So3-as-Tangents.turn_too_large (Tangents.turn t)
+turn_too_large t = So3Tangents.turn_too_large (Tangents.turn t)
 
 abbrev pub group : Manifold.Group Element Tangent (List (List Float)) (List Float) Adjoint
 group =
     record {
-      dim = 11;
-      quaternion = 3;
+      rep_size = Elements.rep_size;
+      quaternion_place = 3;
       element_of = Elements.element_of;
       identity = Elements.identity;
       compose = Elements.compose;
@@ -38,7 +38,7 @@ group =
 abbrev pub tangents : Manifold.Tangents Element Tangent (List (List Float)) (List Float)
 tangents =
     record {
-      dim = 10;
+      dim = Tangents.dof;
       tangent_of = Tangents.tangent_of;
       zero = Tangents.zero;
       exp = Tangents.exp;

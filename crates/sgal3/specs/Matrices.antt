@@ -6,8 +6,8 @@ use Rattle.law.specs.Rows as Rows
 use Rattle.law.specs.Galilean as Law
 use Rattle.linear.specs.Records.{vector}
 use Rattle.linear.specs.declared.Vec3.{Vec3}
-use Rattle.sgal3_rows.specs.Adjoints.{of_adjoint}
-use Rattle.sgal3_rows.specs.declared.Adjoint.{Adjoint}
+use Rattle.ten_rows.specs.Adjoints.{of_adjoint}
+use Rattle.ten_rows.specs.declared.Adjoint.{Adjoint}
 use Rattle.sgal3.specs.Elements.{element}
 use Rattle.sgal3.specs.declared.Element.{Element}
 

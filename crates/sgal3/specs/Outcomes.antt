@@ -1,11 +1,11 @@
--- The outcome of an answer with a Galilean tangent, an adjoint or a 10 by 10 matrix; that of one with an element is in sgal3_composition. Definitions only.
+-- The outcome of an answer with a Galilean tangent, an adjoint or a 10 by 10 matrix; that of one with an element is in sgal3_calls. Definitions only.
 use Rattle.std.specs.Prelude.{[], List, Result, Float}
 use Rattle.checks.specs.Outcomes.{Outcome, outcome}
 use Rattle.checks.specs.declared.Refusal.{Refusal}
 use Rattle.manifold.specs.Outcomes.{beside}
-use Rattle.sgal3_rows.specs.Adjoints as Adjoints
-use Rattle.sgal3_rows.specs.TenRows as TenRows
-use Rattle.sgal3_rows.specs.declared.Adjoint.{Adjoint}
+use Rattle.ten_rows.specs.Adjoints as Adjoints
+use Rattle.ten_rows.specs.TenRows as TenRows
+use Rattle.ten_rows.specs.declared.Adjoint.{Adjoint}
 use Rattle.sgal3.specs.Tangents as Tangents
 use Rattle.sgal3.specs.declared.Tangent.{Tangent}
 

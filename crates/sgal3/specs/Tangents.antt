@@ -1,16 +1,16 @@
 -- Tangents of SGal(3): exp at the rounded operations, and the ten values of a tangent. Definitions only.
-use Rattle.std.specs.Prelude.{cond, List, [], ◌∷◌, get_or, Float}
+use Rattle.std.specs.Prelude.{ℕ, cond, List, [], ◌∷◌, get_or, Float}
 use Rattle.std.specs.Float.{nan}
 use Rattle.law.specs.Rounded.{rounded, divisors}
 use Rattle.law.specs.Vector as Vector
 use Rattle.law.specs.Galilean as Law
-use Rattle.law.specs.GalileanSeries as Series
+use Rattle.law.specs.GalileanSeries as GalileanSeries
 use Rattle.law.specs.ClosedForms as ClosedForms
 use Rattle.linear.specs.Records.{vector, vec3, quaternion, of_quaternion, matrix, mat3}
 use Rattle.linear.specs.declared.Vec3.{Vec3}
 use Rattle.linear.specs.declared.Mat3.{Mat3}
 use Rattle.so3.specs.Angles.{angle, of_square}
-use Rattle.so3.specs.Tangents as So3
+use Rattle.so3.specs.Tangents as So3Tangents
 use Rattle.so3.specs.declared.Angle.{Angle}
 use Rattle.so3.specs.declared.Element as Rotations
 use Rattle.so3.specs.declared.Tangent as Turns
@@ -38,33 +38,37 @@ with_theta a t = record { rho = a.rho; nu = a.nu; theta = t.theta; s = a.s }
 
 -- ---- M: by its coefficients; by its series up to the limit, by its closed form above it
 unfoldable pub coupling_by : Float → Float → Vec3 → Mat3
-coupling_by a b θ = mat3 (Series.coupling_by rounded a b (vector θ))
+coupling_by a b θ = mat3 (GalileanSeries.coupling_by rounded a b (vector θ))
 
 unfoldable pub s_nu_coupling_series : Vec3 → Mat3
-s_nu_coupling_series θ = mat3 (Series.s_nu_coupling rounded divisors (vector θ))
+s_nu_coupling_series θ = mat3 (GalileanSeries.s_nu_coupling rounded divisors (vector θ))
 
 unfoldable pub s_nu_coupling_closed : Angle → Vec3 → Mat3
 s_nu_coupling_closed w θ = mat3 (ClosedForms.s_nu_coupling rounded (angle w) (vector θ))
 
 unfoldable pub s_nu_coupling : Turns.Tangent → Mat3
-s_nu_coupling t = cond (So3.leaves_series t) (s_nu_coupling_closed (of_square (So3.theta_squared t)) t.theta) (s_nu_coupling_series t.theta)
+s_nu_coupling t = cond (So3Tangents.leaves_series t) (s_nu_coupling_closed (of_square (So3Tangents.theta_squared t)) t.theta) (s_nu_coupling_series t.theta)
 
 -- ---- exp: by the rotation, and the left Jacobian and M of theta
 unfoldable pub exp_by : Rotations.Element → Mat3 → Mat3 → Tangent → Element
 exp_by r j m a =
-    let e = Series.exp_by rounded (matrix j) (matrix m) (quaternion r.params) (tangent a) in
+    let e = GalileanSeries.exp_by rounded (matrix j) (matrix m) (quaternion r.params) (tangent a) in
     record { translation = vec3 e.translation; rotation = of_quaternion e.rotation; velocity = vec3 e.velocity; time = e.time }
 
 unfoldable pub exp : Tangent → Element
-exp a = let t = turn a in exp_by (So3.exp t) (So3.left_jacobian t) (s_nu_coupling t) a
+exp a = let t = turn a in exp_by (So3Tangents.exp t) (So3Tangents.left_jacobian t) (s_nu_coupling t) a
 
 -- SO(3)'s, of theta: a norm not above 2^-52 leaves it
 unfoldable pub normalize : Tangent → Tangent
-normalize a = with_theta a (So3.normalize (turn a))
+normalize a = with_theta a (So3Tangents.normalize (turn a))
 
 -- SO(3)'s, of theta: a norm not above 2^-52 makes it zero
 unfoldable pub normalized : Tangent → Tangent
-normalized a = with_theta a (So3.normalized (turn a))
+normalized a = with_theta a (So3Tangents.normalized (turn a))
+
+-- how many values a tangent has
+abbrev pub dof : ℕ
+dof = 10
 
 unfoldable pub coeffs : Tangent → List Float
 coeffs a =

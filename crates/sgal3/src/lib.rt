@@ -5,14 +5,20 @@
 ghost use Rattle.std.specs.Prelude.{◌≡◌};
 ghost use Rattle.sgal3.specs.Algebra as Algebra;
 ghost use Rattle.sgal3.specs.Elements as Elements;
-ghost use Rattle.sgal3.specs.Group as Group;
+ghost use Rattle.sgal3.specs.Group as SGal3;
 ghost use Rattle.sgal3.specs.Matrices as Matrices;
 ghost use Rattle.sgal3.specs.Tangents as Tangents;
 
 use linear::{Mat3, Quaternion, Vec3};
 use manifold::{Jacobian, LieGroup, Tangent as _, Values};
-use sgal3_rows::Adjoint;
 use so3::Angle;
+use ten_rows::Adjoint;
+
+// How many values a tangent has.
+pub const DOF: usize = 10;
+
+// How many values an element has.
+pub const REP_SIZE: usize = 11;
 
 // A block's values in their order: translation, quaternion w, x, y, z, velocity, time.
 #[derive(Clone, Copy)]
@@ -51,7 +57,7 @@ impl Element {
 
     // The eleven values of a block.
     #[tactic(auto, unfolding(crate::specs::Elements::coeffs))]
-    pub fn coeffs(self) -> [f64; 11]
+    pub fn coeffs(self) -> [f64; REP_SIZE]
         ensures { result ≡ Elements.coeffs self }
     {
         let t = self.translation;
@@ -122,19 +128,19 @@ impl Values for Tangent {
 impl LieGroup for Element {
     type TangentVector = Tangent;
 
-    type JacobianMatrix = [[f64; 10]; 10];
+    type JacobianMatrix = [[f64; DOF]; DOF];
 
     type ActJacobian = [f64; 30];
 
     type Adjoint = Adjoint;
 
-    ghost group = { Group.group };
+    ghost group = { SGal3.group };
 
-    fn dim() -> usize {
-        11
+    fn rep_size() -> usize {
+        REP_SIZE
     }
 
-    fn quaternion() -> usize {
+    fn quaternion_place() -> usize {
         3
     }
 
@@ -244,10 +250,10 @@ impl LieGroup for Element {
         self.rotation_impl().is_valid(tolerance)
     }
 
-    #[tactic(auto, unfolding(crate::specs::Matrices::jacobian_identity, sgal3_rows::specs::TenRows::by_blocks, linear::specs::Matrices::identity, linear::specs::Matrices::zero, linear::specs::Vectors::zero, law::specs::Galilean::jacobian_identity))]
-    fn jacobian_identity() -> [[f64; 10]; 10] {
+    #[tactic(auto, unfolding(crate::specs::Matrices::jacobian_identity, ten_rows::specs::TenRows::by_blocks, linear::specs::Matrices::identity, linear::specs::Matrices::zero, linear::specs::Vectors::zero, law::specs::Galilean::jacobian_identity))]
+    fn jacobian_identity() -> [[f64; DOF]; DOF] {
         let z = Mat3::zero();
-        sgal3_rows::by_blocks(Mat3::identity(), z, z, z, Vec3::zero(), 1.0)
+        ten_rows::by_blocks(Mat3::identity(), z, z, z, Vec3::zero(), 1.0)
     }
 
     fn adjoint(self) -> Adjoint {
@@ -268,8 +274,8 @@ impl LieGroup for Element {
     }
 
     // The adjoint is negated after it is opened. This and the next as in so3, where the reason stands.
-    #[tactic(auto, unfolding(crate::specs::Matrices::inverse_jacobian, sgal3_rows::specs::Adjoints::opened, sgal3_rows::specs::TenRows::neg, crate::specs::Matrices::adjoint, law::specs::Galilean::inverse_jacobian))]
-    fn inverse_jacobian(self) -> [[f64; 10]; 10] {
+    #[tactic(auto, unfolding(crate::specs::Matrices::inverse_jacobian, ten_rows::specs::Adjoints::opened, ten_rows::specs::TenRows::neg, crate::specs::Matrices::adjoint, law::specs::Galilean::inverse_jacobian))]
+    fn inverse_jacobian(self) -> [[f64; DOF]; DOF] {
         self.adjoint().open().neg()
     }
 
@@ -278,7 +284,7 @@ impl LieGroup for Element {
         other.inverse().adjoint()
     }
 
-    // Of self.act(p) with respect to a, three rows of ten; with respect to p it is the rotation matrix.
+    // Of act with respect to self, three rows of ten; with respect to the vector it is the rotation matrix.
     fn act_jacobian_self(self, vector: Vec3) -> [f64; 30] {
         let r = self.rotation_matrix();
         let b = r.scale(self.time);
@@ -372,7 +378,7 @@ impl Tangent {
 
     // The ten values of a tangent.
     #[tactic(auto, unfolding(crate::specs::Tangents::coeffs))]
-    pub fn coeffs(self) -> [f64; 10]
+    pub fn coeffs(self) -> [f64; DOF]
         ensures { result ≡ Tangents.coeffs self }
     {
         let rho = self.rho;
@@ -387,14 +393,14 @@ impl Tangent {
 impl manifold::Tangent for Tangent {
     type Group = Element;
 
-    type JacobianMatrix = [[f64; 10]; 10];
+    type JacobianMatrix = [[f64; DOF]; DOF];
 
     type LieAlgebra = [f64; 36];
 
-    ghost tangents = { Group.tangents };
+    ghost tangents = { SGal3.tangents };
 
     fn dim() -> usize {
-        10
+        DOF
     }
 
     #[tactic(auto, unfolding(crate::specs::Tangents::tangent_of, manifold::specs::Answers::vector_at))]
@@ -454,14 +460,14 @@ impl manifold::Tangent for Tangent {
     }
 
     // -s I is nine products: where s is above zero its other six places hold -0.
-    #[tactic(auto, unfolding(crate::specs::Algebra::small_adj, sgal3_rows::specs::TenRows::by_blocks, linear::specs::Matrices::hat, linear::specs::Matrices::identity, linear::specs::Matrices::scale, law::specs::Galilean::small_adj))]
-    fn small_adj(self) -> [[f64; 10]; 10] {
+    #[tactic(auto, unfolding(crate::specs::Algebra::small_adj, ten_rows::specs::TenRows::by_blocks, linear::specs::Matrices::hat, linear::specs::Matrices::identity, linear::specs::Matrices::scale, law::specs::Galilean::small_adj))]
+    fn small_adj(self) -> [[f64; DOF]; DOF] {
         let nu = self.nu;
         let rho_skew = Mat3::hat(self.rho);
         let nu_skew = Mat3::hat(nu);
         let theta_skew = Mat3::hat(self.theta);
         let b = Mat3::identity().scale(-self.s);
-        sgal3_rows::by_blocks(theta_skew, b, rho_skew, nu_skew, nu, 0.0)
+        ten_rows::by_blocks(theta_skew, b, rho_skew, nu_skew, nu, 0.0)
     }
 
     #[tactic(auto, unfolding(crate::specs::Algebra::lie_bracket, crate::specs::Algebra::apply, crate::specs::Algebra::small_adj, law::specs::Galilean::lie_bracket))]
@@ -501,7 +507,7 @@ fn lie_algebra(h: Mat3, rho: Vec3, nu: Vec3, s: f64) -> [f64; 36]
 
 // A row times a tangent: the first product first, the others added to it from the left.
 #[tactic(auto, unfolding(crate::specs::Algebra::dot, law::specs::Rows::dot, law::specs::Galilean::coeffs, law::specs::Galilean::row10, crate::specs::Tangents::coeffs), using(crate::proofs::Dots::no_row, crate::proofs::Dots::no_column))]
-fn dot(r: [f64; 10], t: Tangent) -> f64
+fn dot(r: [f64; DOF], t: Tangent) -> f64
     ensures { result ≡ Algebra.dot r t }
 {
     let c = t.coeffs();
@@ -513,10 +519,10 @@ fn dot(r: [f64; 10], t: Tangent) -> f64
 }
 
 #[tactic(auto, unfolding(crate::specs::Algebra::apply, crate::specs::Algebra::dot, law::specs::Galilean::apply_tangent, law::specs::Galilean::tangent, law::specs::Rows::apply))]
-pub fn apply(m: [[f64; 10]; 10], t: Tangent) -> Tangent
+pub fn apply(m: [[f64; DOF]; DOF], t: Tangent) -> Tangent
     ensures { result ≡ Algebra.apply m t }
 {
-    let mut values = [0.0; 10];
+    let mut values = [0.0; DOF];
     for (i, row) in m.iter().enumerate() {
         values[i] = dot(*row, t);
     }

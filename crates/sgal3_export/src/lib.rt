@@ -3,64 +3,65 @@
 #![tactic(auto)]
 
 ghost use Rattle.checks.specs.Checks as Checks;
-ghost use Rattle.manifold_blocks.specs.Calls as Calls;
+ghost use Rattle.manifold_calls.specs.Calls as Calls;
 ghost use Rattle.outcomes.specs.Outcomes as Outcomes;
 ghost use Rattle.sgal3.specs.Elements as Elements;
 ghost use Rattle.sgal3.specs.Group.{group, tangents};
 ghost use Rattle.sgal3.specs.Tangents as Tangents;
-ghost use Rattle.sgal3_rows.specs.Adjoints as Adjoints;
-ghost use Rattle.sgal3_rows.specs.TenRows as TenRows;
+ghost use Rattle.ten_rows.specs.Adjoints as Adjoints;
+ghost use Rattle.ten_rows.specs.TenRows as TenRows;
 ghost use Rattle.so3.specs.Group as So3;
 ghost use Rattle.so3.specs.Tangents as So3Tangents;
 
+use outcomes::LONGEST;
 use sgal3::{Element, Tangent};
 
 // Names for C, which knows no type parameters; and into the caller's buffer, since there is no heap.
 
 #[unsafe(no_mangle)]
-pub extern "C" fn sgal3_exp(tangent: &[f64], out: &mut [u8; 832]) -> usize
+pub extern "C" fn sgal3_exp(tangent: &[f64], out: &mut [u8; LONGEST]) -> usize
     ensures { Outcomes.Put result out.old out.new (Outcomes.of Elements.coeffs 0 (Calls.exp tangents Elements.coeffs tangent.now)) }
 {
-    outcomes::put(out, manifold_blocks::exp::<Tangent>(tangent))
+    outcomes::put(out, manifold_calls::exp::<Tangent>(tangent))
 }
 
 #[unsafe(no_mangle)]
-pub extern "C" fn sgal3_log(block: &[f64], out: &mut [u8; 832]) -> usize
-    ensures { Outcomes.Put result out.old out.new (Outcomes.of Tangents.coeffs 0 (Calls.log group tangents Tangents.coeffs block.now Checks.tolerance)) }
+pub extern "C" fn sgal3_log(block: &[f64], out: &mut [u8; LONGEST]) -> usize
+    ensures { Outcomes.Put result out.old out.new (Outcomes.of Tangents.coeffs 0 (Calls.log group tangents Tangents.coeffs block.now Checks.quaternion_norm_tolerance)) }
 {
     outcomes::put(
         out,
-        manifold_blocks::log::<Element>(block, checks::tolerance()),
+        manifold_calls::log::<Element>(block, checks::quaternion_norm_tolerance()),
     )
 }
 
 #[unsafe(no_mangle)]
-pub extern "C" fn so3_log(block: &[f64], out: &mut [u8; 832]) -> usize
-    ensures { Outcomes.Put result out.old out.new (Outcomes.of So3Tangents.values 0 (Calls.log So3.group So3.tangents So3Tangents.values block.now Checks.tolerance)) }
+pub extern "C" fn so3_log(block: &[f64], out: &mut [u8; LONGEST]) -> usize
+    ensures { Outcomes.Put result out.old out.new (Outcomes.of So3Tangents.values 0 (Calls.log So3.group So3.tangents So3Tangents.values block.now Checks.quaternion_norm_tolerance)) }
 {
     outcomes::put(
         out,
-        manifold_blocks::log::<so3::Element>(block, checks::tolerance()),
+        manifold_calls::log::<so3::Element>(block, checks::quaternion_norm_tolerance()),
     )
 }
 
 #[unsafe(no_mangle)]
-pub extern "C" fn sgal3_adjoint(block: &[f64], out: &mut [u8; 832]) -> usize
-    ensures { Outcomes.Put result out.old out.new (Outcomes.of TenRows.values 100 (Calls.adjoint group TenRows.values Adjoints.opened block.now Checks.tolerance)) }
+pub extern "C" fn sgal3_adjoint(block: &[f64], out: &mut [u8; LONGEST]) -> usize
+    ensures { Outcomes.Put result out.old out.new (Outcomes.of TenRows.values 100 (Calls.adjoint group TenRows.values Adjoints.opened block.now Checks.quaternion_norm_tolerance)) }
 {
     outcomes::put(
         out,
-        manifold_blocks::adjoint::<Element>(block, checks::tolerance()),
+        manifold_calls::adjoint::<Element>(block, checks::quaternion_norm_tolerance()),
     )
 }
 
 // The adjoint's 39 numbers: 344 bytes where the ten rows take 832.
 #[unsafe(no_mangle)]
 pub extern "C" fn sgal3_short_adjoint(block: &[f64], out: &mut [u8; 344]) -> usize
-    ensures { Outcomes.Put result out.old out.new (Outcomes.of Adjoints.values 39 (Calls.short_adjoint group Adjoints.values block.now Checks.tolerance)) }
+    ensures { Outcomes.Put result out.old out.new (Outcomes.of Adjoints.values 39 (Calls.short_adjoint group Adjoints.values block.now Checks.quaternion_norm_tolerance)) }
 {
     outcomes::put(
         out,
-        manifold_blocks::short_adjoint::<Element>(block, checks::tolerance()),
+        manifold_calls::short_adjoint::<Element>(block, checks::quaternion_norm_tolerance()),
     )
 }

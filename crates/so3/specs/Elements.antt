@@ -1,5 +1,5 @@
 -- Elements of SO(3): the formulas of the group at the rounded operations. Definitions only.
-use Rattle.std.specs.Prelude.{Bool, false, cond, List, [], ◌∷◌, Float}
+use Rattle.std.specs.Prelude.{ℕ, Bool, false, cond, List, [], ◌∷◌, Float}
 use Rattle.std.specs.Float.{binary64}
 use Rattle.std.specs.Float.Ieee.{sub, neg, lt}
 use Rattle.std.specs.Float.Ieee.Scale.{finite}
@@ -27,6 +27,10 @@ element a = quaternion a.params
 
 abbrev pub of_element : Law-as-Quaternion.Quaternion Float → Element
 of_element q = record { params = of_quaternion q }
+
+-- how many values an element has
+abbrev pub rep_size : ℕ
+rep_size = 4
 
 -- w, x, y, z
 unfoldable pub values : Element → List Float

@@ -10,8 +10,8 @@ use Rattle.so3.specs.declared.Tangent.{Tangent}
 abbrev pub group : Manifold.Group Element Tangent Mat3 Mat3 Mat3
 group =
     record {
-      dim = 4;
-      quaternion = 0;
+      rep_size = Elements.rep_size;
+      quaternion_place = 0;
       element_of = Elements.element_of;
       identity = Elements.identity;
       compose = Elements.compose;
@@ -31,7 +31,7 @@ group =
 abbrev pub tangents : Manifold.Tangents Element Tangent Mat3 Mat3
 tangents =
     record {
-      dim = 3;
+      dim = Tangents.dof;
       tangent_of = Tangents.tangent_of;
       zero = Tangents.zero;
       exp = Tangents.exp;

@@ -1,4 +1,4 @@
--- The Jacobians of plus and minus of SO(3) that SGal(3) takes by central differences; those of any group are in manifold/specs/Operations.antt.
+-- The Jacobians of plus and minus that SO(3) alone has: for SGal(3) the source takes central differences, which are left out. Those of any group are in manifold/specs/Operations.antt.
 -- Definitions only.
 use Rattle.linear.specs.Matrices as Matrices
 use Rattle.linear.specs.declared.Mat3.{Mat3}

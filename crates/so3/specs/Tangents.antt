@@ -25,6 +25,10 @@ abbrev θ : Tangent → Law-as-Vector.Vector Float
 abbrev tangent : Law-as-Vector.Vector Float → Tangent
 tangent v = record { theta = vec3 v }
 
+-- how many values a tangent has
+abbrev pub dof : ℕ
+dof = 3
+
 unfoldable pub values : Tangent → List Float
 values a = vector_values a.theta
 

@@ -5,12 +5,18 @@
 ghost use Rattle.std.specs.Prelude.{◌≡◌};
 ghost use Rattle.so3.specs.Angles as Angles;
 ghost use Rattle.so3.specs.Elements as Elements;
-ghost use Rattle.so3.specs.Group as Group;
+ghost use Rattle.so3.specs.Group as So3;
 ghost use Rattle.so3.specs.Jacobians as Jacobians;
 ghost use Rattle.so3.specs.Tangents as Tangents;
 
 use linear::{Mat3, Quaternion, Vec3};
 use manifold::{LieGroup, Tangent as _, Values};
+
+// How many values a tangent has.
+pub const DOF: usize = 3;
+
+// How many values an element has.
+pub const REP_SIZE: usize = 4;
 
 // The quaternion w, x, y, z, as it is stored.
 #[derive(Clone, Copy)]
@@ -46,7 +52,7 @@ impl Element {
 
     // Its four values w, x, y, z.
     #[tactic(auto, unfolding(crate::specs::Elements::values))]
-    pub fn coeffs(self) -> [f64; 4]
+    pub fn coeffs(self) -> [f64; REP_SIZE]
         ensures { result ≡ Elements.values self }
     {
         let q = self.params;
@@ -107,13 +113,13 @@ impl LieGroup for Element {
     // Nine places, none of them empty.
     type Adjoint = Mat3;
 
-    ghost group = { Group.group };
+    ghost group = { So3.group };
 
-    fn dim() -> usize {
-        4
+    fn rep_size() -> usize {
+        REP_SIZE
     }
 
-    fn quaternion() -> usize {
+    fn quaternion_place() -> usize {
         0
     }
 
@@ -420,10 +426,10 @@ impl manifold::Tangent for Tangent {
 
     type LieAlgebra = Mat3;
 
-    ghost tangents = { Group.tangents };
+    ghost tangents = { So3.tangents };
 
     fn dim() -> usize {
-        3
+        DOF
     }
 
     #[tactic(auto, unfolding(crate::specs::Tangents::tangent_of))]

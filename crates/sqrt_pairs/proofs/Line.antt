@@ -3,9 +3,9 @@ use Rattle.std.proofs.Common.{ℕ, ◌≡◌, ◌≤◌, ◌∙◌, ap, sym, Lis
 use Rattle.std.proofs.Math.Seq.{take-append_seam, drop-append-add}
 use Rattle.std.proofs.lemmas.List.Edits.{sets, sets-eq}
 use Prim.Native.Char.{code}
-use Rattle.digits.proofs.Digits.{lower_hex-length}
-use Rattle.digits.specs.Digits.{lower_hex}
-use Rattle.sqrt_pairs.specs.Line.{last_digits, pattern_line}
+use Rattle.report_text.proofs.DigitsStored.{lower_hex-length}
+use Rattle.report_text.specs.Digits.{lower_hex}
+use Rattle.sqrt_pairs.specs.Line.{pattern_line}
 
 stored-behind : (a rest d : List ℕ) → length d ≤ length rest → sets (a ++ rest) (length a) d ≡ a ++ (d ++ drop (length d) rest)
 stored-behind a rest d fits =
@@ -13,7 +13,7 @@ stored-behind a rest d fits =
 
 pub pattern-stored : (name rest : List ℕ) (b : ℕ) → length name ≡ 28 → length rest ≡ 17 → drop 16 rest ≡ code "\n" ∷ []
     → sets (name ++ rest) 28 (lower_hex 16 b) ≡ pattern_line name b
-unfolding pattern_line last_digits lower_hex
+unfolding pattern_line
 pattern-stored name rest b named size end =
     let d = lower_hex 16 b in
     let sixteen : length d ≡ 16 = lower_hex-length 16 b in

@@ -7,7 +7,7 @@ ghost use Rattle.float.specs.Root.{square_root_bits};
 ghost use Rattle.sqrt_pairs.specs.Line.{pattern_line};
 ghost use Rattle.sqrt_pairs.specs.Pairs.{wrong, wrong_pairs};
 
-use digits::Case;
+use report_text::digits::Case;
 
 // The root on patterns, by way of the f64.
 #[tactic(auto, unfolding(float::specs::Root::square_root_bits))]
@@ -93,6 +93,6 @@ pub fn pattern_line(name: &[u8; 28], b: u64) -> [u8; 45]
 {
     let mut line = [b'\n'; 45];
     line[..28].copy_from_slice(name);
-    digits::put_hex(&mut line, 28, b, Case::Lower);
+    report_text::digits::put_hex(&mut line, 28, b, Case::Lower);
     line
 }

@@ -22,12 +22,13 @@ use Rattle.checks.specs.declared.Refusal.TheVariants.{Length}
 use Rattle.checks.proofs.Outcomes.{above_zero}
 use Rattle.words.specs.Word.{value_at, word_at}
 use Rattle.sgal3.specs.Elements as Elements
+use Rattle.sgal3.specs.Elements.{rep_size}
 use Rattle.sgal3.specs.declared.Element.{Element}
-use Rattle.element_bytes.specs.Bytes.{values_at, element_bytes}
+use Rattle.element_bytes.specs.Bytes.{values_at, element_bytes, element_size}
 use Rattle.element_bytes.proofs.RoundTrips.{time-back}
 use Rattle.element_bytes.proofs.Stored.{element-length}
-use Rattle.sgal3_composition.specs.Calls as Calls
-use Rattle.sgal3_composition.specs.Calls.{Answer}
+use Rattle.sgal3_calls.specs.Composition as Composition
+use Rattle.sgal3_calls.specs.Composition.{Answer}
 use Rattle.byte_chain.specs.Blocks.{check_block}
 use Rattle.handset.specs.Entries as Entries
 use Rattle.handset.specs.Entries.{number, written, check_output, into, Answered}
@@ -52,13 +53,13 @@ answered out a c = go a (check_output out)
 
 block-time : (tolerance : Float) (s : List ℕ) (e : Element) → check_block s tolerance ≡ Ok e → e.time ≡ time_at s
 unfolding check_block
-block-time tolerance s e = go (eqb (length s) 88)
+block-time tolerance s e = go (eqb (length s) element_size)
   where
-    last : time_of (values_at 11 s 0) ≡ time_at s
+    last : time_of (values_at rep_size s 0) ≡ time_at s
     last = unfold time_of time_at values_at in refl
 
-    go : (b : Bool) → cond b (Calls.check_element (values_at 11 s 0) tolerance) (Err (Length 88 (length s))) ≡ Ok e → e.time ≡ time_at s
-    go true h = checked tolerance (values_at 11 s 0) e h ∙ last
+    go : (b : Bool) → cond b (Composition.check_element (values_at rep_size s 0) tolerance) (Err (Length element_size (length s))) ≡ Ok e → e.time ≡ time_at s
+    go true h = checked tolerance (values_at rep_size s 0) e h ∙ last
     go false h = never h
 
 stored-time : (e : Element) → T (fits binary64 e.time) → time_at (element_bytes e) ≡ e.time
@@ -121,7 +122,7 @@ begins = rw (stored-time Elements.identity (of_bits-fits binary64 0)) starts
 pub entries-time-sum-sharp : (l : List Call) → Within ((after start l).n - 1) (after start l)
 entries-time-sum-sharp l = (calls start l begins).bound
 
--- the promise as the paper words it
+-- the promise as the scope words it
 pub entries-time-sum : (l : List Call) → Within (after start l).n (after start l)
 entries-time-sum l = le_trans (entries-time-sum-sharp l) (mul-le-mul_right (after start l).M (one_less (after start l).n))
 
@@ -137,19 +138,19 @@ unfolding called
 in-place-entered b tolerance step left r a = rw (a.returned, a.output)
 
 -- ---- what is held has an element's length, after every call
-written-length : (a : Answer) (out : List ℕ) → length out ≡ 88 → length (written a out) ≡ 88
+written-length : (a : Answer) (out : List ℕ) → length out ≡ element_size → length (written a out) ≡ element_size
 written-length (Ok e) out h = rw (done-written e out) (element-length e)
 written-length (Err r) out h = rw (refused-written r out) h
 
-refusal-length : (b : EntryRun) (step taken left : List ℕ) (r : Refusal) → length left ≡ 88 → length (entered b step (Refusals.number r) taken left).held ≡ 88
+refusal-length : (b : EntryRun) (step taken left : List ℕ) (r : Refusal) → length left ≡ element_size → length (entered b step (Refusals.number r) taken left).held ≡ element_size
 unfolding entered
 refusal-length b step taken left r h = rw (above_zero r) h
 
-call_length : (b : EntryRun) (step out left : List ℕ) (a : Answer) → length left ≡ 88 → length (entered b step (number a) (written a out) left).held ≡ 88
+call_length : (b : EntryRun) (step out left : List ℕ) (a : Answer) → length left ≡ element_size → length (entered b step (number a) (written a out) left).held ≡ element_size
 call_length b step out left (Ok e) h = rw (done-number e, done-written e out) (unfold entered in element-length e)
 call_length b step out left (Err r) h = rw (refused-number r) (refusal-length b step (written (Err r) out) left r h)
 
-calls-length : (b : EntryRun) (l : List Call) → length b.held ≡ 88 → length (after b l).held ≡ 88
+calls-length : (b : EntryRun) (l : List Call) → length b.held ≡ element_size → length (after b l).held ≡ element_size
 unfolding after called
 calls-length b [] h = h
 calls-length b (Call·composed step tolerance out ∷ l) h =
@@ -157,6 +158,3 @@ calls-length b (Call·composed step tolerance out ∷ l) h =
 calls-length b (composed_in_place step tolerance ∷ l) h =
     let a = Entries.compose_in_place b.held step tolerance in
     calls-length (called b (composed_in_place step tolerance)) l (call_length b step b.held (written a b.held) a (written-length a b.held h))
-
-pub held-length : (l : List Call) → length (after start l).held ≡ 88
-held-length l = calls-length start l (unfold start in element-length Elements.identity)

@@ -13,8 +13,9 @@ use Rattle.manifold.specs.Answers.{answered}
 use Rattle.manifold.proofs.Outcomes.{finished}
 use Rattle.law.specs.Galilean as Law
 use Rattle.sgal3.specs.Elements as Elements
-use Rattle.sgal3_composition.specs.Calls as Calls
-use Rattle.sgal3_composition.specs.Calls.{Answer}
+use Rattle.sgal3.specs.Elements.{rep_size}
+use Rattle.sgal3_calls.specs.Composition as Composition
+use Rattle.sgal3_calls.specs.Composition.{Answer}
 use Rattle.sgal3.specs.declared.Element.{Element}
 use Rattle.time_sum.specs.RunningSum.{time_of}
 
@@ -27,8 +28,8 @@ pub record Composed (left right : Answer) (c : Element) : Type 0 where
   pub time : c.time ≡ add binary64 a.time b.time
   pub finite : T (finite c.time)
 
-pub composed : (left right : Answer) (c : Element) → Calls.compose_answers left right ≡ Ok c → Composed left right c
-unfolding Calls.compose_answers Calls.element_answer answered
+pub composed : (left right : Answer) (c : Element) → Composition.compose_answers left right ≡ Ok c → Composed left right c
+unfolding Composition.compose_answers Composition.element_answer answered
 composed left right c h =
     let f = followed (both left right) _ c h in
     let a = f.answer.0 in
@@ -50,9 +51,9 @@ composed left right c h =
     last e h = unfold Elements.coeffs in subst T (sym (finite-at (Elements.coeffs e) h 10 (lit< tt))) tt
 
 -- ---- the element of a block that passed
-pub checked : (tolerance : Float) (s : List Float) (e : Element) → Calls.check_element s tolerance ≡ Ok e → e.time ≡ time_of s
-unfolding Calls.check_element Elements.element_of time_of
-checked tolerance s e h = let f = followed (check_param_block s 11 3 tolerance) _ e h in ap (λ (x : Element). x.time) (sym (same f.after))
+pub checked : (tolerance : Float) (s : List Float) (e : Element) → Composition.check_element s tolerance ≡ Ok e → e.time ≡ time_of s
+unfolding Composition.check_element Elements.element_of time_of
+checked tolerance s e h = let f = followed (check_param_block s rep_size 3 tolerance) _ e h in ap (λ (x : Element). x.time) (sym (same f.after))
 
 pub own-time : (e : Element) → time_of (Elements.coeffs e) ≡ e.time
 unfolding time_of Elements.coeffs

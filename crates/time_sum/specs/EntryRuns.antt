@@ -13,7 +13,7 @@ pub data Call : Type 0 where
   composed : (step : List ℕ) (tolerance : Float) (out : List ℕ) → Call
   composed_in_place : (step : List ℕ) (tolerance : Float) → Call
 
--- the paper's book of demand 3, over bytes: the block held, and of the accepted steps n, S and M
+-- the scope's book of demand 3, over bytes: the block held, and of the accepted steps n, S and M
 pub record EntryRun : Type 0 where
   pub held : List ℕ
   pub n : ℕ

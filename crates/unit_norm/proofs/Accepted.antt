@@ -29,7 +29,7 @@ use Rattle.unit_norm.specs.SquaredNorm.{squared_norm}
 use Rattle.unit_norm.proofs.Sums.{tiny, slack, tiny-one, one-tiny, tiny-few, sizes-apart}
 use Rattle.unit_norm.proofs.Norms.{Numbers, finite-turn, check-near}
 use Rattle.unit_norm.proofs.Unit.{RoughlyOne}
-use Rattle.checks.specs.Checks.{passed, and_then, permitted, tolerance, check_tolerance, norm_of, check_norm, check_unit_quaternion}
+use Rattle.checks.specs.Checks.{passed, and_then, permitted, quaternion_norm_tolerance, check_tolerance, norm_of, check_norm, check_unit_quaternion}
 use Rattle.checks.specs.declared.Refusal.TheVariants.{NotFinite, NotUnit, Tolerance}
 
 abbrev pub coefficients : Quaternion Float → List Float
@@ -199,12 +199,12 @@ accepted-roughly-one {q} t Q h =
     one-times t = omega arith
 
 -- ---- what has a squared norm within 128 * 2 ^ -53 of 1 is accepted at 1e-6: the rounded sum lies between the rounded 1 - 1e-6 and 1 + 1e-6
-low64 : sub binary64 one64 tolerance ≡ of_bits binary64 0x3fef_fffd_e721_0be9
-unfolding sub add neg sum round size span climb odd units count_trailing_zeros of_fields of_bits tolerance
+low64 : sub binary64 one64 quaternion_norm_tolerance ≡ of_bits binary64 0x3fef_fffd_e721_0be9
+unfolding sub add neg sum round size span climb odd units count_trailing_zeros of_fields of_bits quaternion_norm_tolerance
 low64 = refl
 
-high64 : add binary64 one64 tolerance ≡ of_bits binary64 0x3ff0_0001_0c6f_7a0b
-unfolding add sum round size span climb odd units count_trailing_zeros of_fields of_bits tolerance
+high64 : add binary64 one64 quaternion_norm_tolerance ≡ of_bits binary64 0x3ff0_0001_0c6f_7a0b
+unfolding add sum round size span climb odd units count_trailing_zeros of_fields of_bits quaternion_norm_tolerance
 high64 = refl
 
 record Limits (l m : Float) : Type 0 where
@@ -213,7 +213,7 @@ record Limits (l m : Float) : Type 0 where
   least : 2 ^ 20 * count l ≤ (2 ^ 20 - 1) * one
   most : (2 ^ 20 + 1) * one ≤ 2 ^ 20 * count m
 
-limits : Limits (sub binary64 one64 tolerance) (add binary64 one64 tolerance)
+limits : Limits (sub binary64 one64 quaternion_norm_tolerance) (add binary64 one64 quaternion_norm_tolerance)
 unfolding of_bits count negative fits one
 limits = rw (low64, high64) (record { low = positive tt; high = positive tt; least = leb→le _ _ tt; most = leb→le _ _ tt })
 
@@ -227,18 +227,18 @@ below-most m v s t q h a k e = omega arith
 test-le : {x y : Float} → Number x → Number y → negative x ≡ false → negative y ≡ false → count x ≤ count y → le x y ≡ true
 test-le X Y p q h = le-plain X Y p q ∙ is_true _ (le→leb _ _ h)
 
-pub near-accepted : {q : Quaternion Float} → Numbers q → Within (squared_norm q) (one * one) (128 * tiny) → check_unit_quaternion (coefficients q) tolerance ≡ passed
+pub near-accepted : {q : Quaternion Float} → Numbers q → Within (squared_norm q) (one * one) (128 * tiny) → check_unit_quaternion (coefficients q) quaternion_norm_tolerance ≡ passed
 unfolding check_unit_quaternion norm_of slack
 near-accepted {q} Q w =
     let s = squared_norm q in
     let f = tiny-few 1000 (lit≤ tt) in
     let G = check-near Q (size s (one * one) tiny w.over f) in
     let L = limits in
-    let l = le_of_mul-le-mul_right (above-least (count (sub binary64 one64 tolerance) * one) _ s tiny (one * one) (times (count (sub binary64 one64 tolerance)) one L.least) w.under w.over G.near.under tiny-one) one-pos in
-    let m = le_of_mul-le-mul_right (below-most (count (add binary64 one64 tolerance) * one) _ s tiny (one * one) (times' (count (add binary64 one64 tolerance)) one L.most) w.over G.near.over tiny-one) one-pos in
-    passes-without-root tolerance tolerance _ tolerance G.number.is_binary64 (unfold tolerance of_bits fits in tt)
-    (rw (test-le L.low.number G.number L.low.sign G.sign l, test-le G.number L.high.number G.sign L.high.sign m) (unfold tolerance of_bits le lt eq in refl))
-    (unfold tolerance of_bits fits count negative one in record { low = tt; high = tt; least = tt; most = tt })
+    let l = le_of_mul-le-mul_right (above-least (count (sub binary64 one64 quaternion_norm_tolerance) * one) _ s tiny (one * one) (times (count (sub binary64 one64 quaternion_norm_tolerance)) one L.least) w.under w.over G.near.under tiny-one) one-pos in
+    let m = le_of_mul-le-mul_right (below-most (count (add binary64 one64 quaternion_norm_tolerance) * one) _ s tiny (one * one) (times' (count (add binary64 one64 quaternion_norm_tolerance)) one L.most) w.over G.near.over tiny-one) one-pos in
+    passes-without-root quaternion_norm_tolerance quaternion_norm_tolerance _ quaternion_norm_tolerance G.number.is_binary64 (unfold quaternion_norm_tolerance of_bits fits in tt)
+    (rw (test-le L.low.number G.number L.low.sign G.sign l, test-le G.number L.high.number G.sign L.high.sign m) (unfold quaternion_norm_tolerance of_bits le lt eq in refl))
+    (unfold quaternion_norm_tolerance of_bits fits count negative one in record { low = tt; high = tt; least = tt; most = tt })
   where
     size : (s q t : ℕ) → s ≤ q + 128 * t → 1000 * t ≤ q → s ≤ 2 ^ 7 * q
     size s q t h k = omega arith

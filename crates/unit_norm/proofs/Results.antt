@@ -10,7 +10,7 @@ use Rattle.float.specs.Exact.{count}
 use Rattle.rounding.specs.Number.{one}
 use Rattle.rounding.specs.Error.{Within}
 use Rattle.rounding.proofs.Laws.{neg-number, neg-count}
-use Rattle.checks.specs.Checks.{passed, tolerance, check_unit_quaternion}
+use Rattle.checks.specs.Checks.{passed, quaternion_norm_tolerance, check_unit_quaternion}
 use Rattle.law.specs.Quaternion as Quaternion
 use Rattle.law.specs.Quaternion.{Quaternion}
 use Rattle.law.specs.Rotation as Rotation
@@ -45,7 +45,7 @@ made-near-one {q} U = record { over = le_trans U.near.over (more (2 ^ 2148) (101
     more : (a b c : ℕ) → b ≤ c → a + b ≤ a + c
     more a b c h = omega arith
 
-pub made-passes : {q : Quaternion Float} → Made q → check_unit_quaternion (coefficients q) tolerance ≡ passed
+pub made-passes : {q : Quaternion Float} → Made q → check_unit_quaternion (coefficients q) quaternion_norm_tolerance ≡ passed
 made-passes {q} U = near-accepted U.numbers (wider (squared_norm q) (one * one) tiny U.near)
   where
     wider : (s q t : ℕ) → Within s q (101 * t) → Within s q (128 * t)

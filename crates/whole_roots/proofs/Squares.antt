@@ -29,9 +29,6 @@ rounded x h e H r = go (h % 2) refl
     go (suc _) p = from-odd x h (h / 2) e (omega arith) r
 
 -- ---- the whole root of a * 2 ^ 54
-pub root-high : (a h : ℕ) → a < 2 ^ 54 → WholeRoot (a * 2 ^ 54) h → h < 2 ^ 54
-root-high a h A r = square-lt h (2 ^ 54) (lt_of_le_of_lt r.low (omega arith))
-
 pub root-low : (a h : ℕ) → 0 < a → WholeRoot (a * 2 ^ 54) h → 0 < h
 root-low a h A r =
     let s = square-lt 1 (h + 1) (lt_of_le_of_lt (omega arith) r.high) in

@@ -1,7 +1,7 @@
 //! exp, log of both groups and adjoint, in both its forms, on blocks of values, each through an entry that is there for timing alone: the library's and,
 //! behind functions of the same signature, the Rust source's own.
 //!
-//! The outcome is words: the refusal's number, two figures, how many values follow, their bits. docs/TESTING.md has the format.
+//! The outcome is words: the refusal's number, two figures, how many values follow, their bits. rust/reference/README.md has the format.
 use apex::sgal3::{SGal3, SGal3Tangent};
 use apex::so3::SO3;
 use apex::{LieGroup, Tangent};

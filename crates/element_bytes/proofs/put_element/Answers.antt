@@ -18,4 +18,4 @@ put_vector-requires-2-clause-a_value c =
 pub returns : goal.returns
 returns c =
     rw (c.put_finite_value.ensures, c.put_vector-2.ensures, c.put_quaternion.ensures, c.put_vector.ensures)
-    (element-sets c.args.out.now c.args.e c.requires.out_len)
+    (element-sets c.args.out.now c.args.at c.args.e)

@@ -1,7 +1,7 @@
 -- The loop keeps what out holds once the rows that are left are stored, and their length.
 use Rattle.std.proofs.Common.{◌≡◌, ◌+◌, ◌*◌, ◌≤◌, length, drop}
 use Rattle.std.proofs.lemmas.List.Edits.{sets}
-use Rattle.sgal3_rows.specs.TenRows as TenRows
+use Rattle.ten_rows.specs.TenRows as TenRows
 use Rattle.outcomes.specs.Outcomes.{bits}
 use Rattle.outcomes.proofs.put_rows.Given as goal
 

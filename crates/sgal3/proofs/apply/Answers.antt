@@ -5,7 +5,7 @@ use Rattle.std.specs.Float.{nan, Float}
 use Rattle.law.specs.Rounded.{rounded}
 use Rattle.law.specs.Galilean as Law
 use Rattle.law.specs.Rows as Rows
-use Rattle.sgal3_rows.proofs.Ten.{ten}
+use Rattle.ten_rows.proofs.Ten.{ten}
 use Rattle.sgal3.specs.Algebra as Algebra
 use Rattle.sgal3.specs.Tangents as Tangents
 use Rattle.sgal3.proofs.apply.Goals as goal

@@ -1,6 +1,6 @@
 use Rattle.sgal3.specs.Tangents as Tangents
 use Rattle.linear.specs.Matrices as Matrices
-use Rattle.law.specs.GalileanSeries as Law-as-Series
+use Rattle.law.specs.GalileanSeries as GalileanSeries
 use Rattle.so3.proofs.Half.{half-value}
 use Rattle.sgal3.proofs.coupling_by.Goals as goal
 
@@ -14,4 +14,4 @@ returns c = rw (
   c.scale.ensures,
   c.identity.ensures,
   c.hat-theta_skew.ensures,
-) (unfold Tangents.coupling_by Matrices.hat Matrices.identity Matrices.scale Matrices.add Matrices.mul Law-as-Series.coupling_by in rw half-value)
+) (unfold Tangents.coupling_by Matrices.hat Matrices.identity Matrices.scale Matrices.add Matrices.mul GalileanSeries.coupling_by in rw half-value)

@@ -2,7 +2,7 @@
 use Rattle.std.proofs.Common.{refl, ap, ◌∙◌, ◌++◌}
 use lib.Seq.{sets}
 use Rattle.linear.specs.Records.{vector_values, matrix_values}
-use Rattle.sgal3_rows.specs.Adjoints as Adjoints
+use Rattle.ten_rows.specs.Adjoints as Adjoints
 use Rattle.outcomes.specs.Outcomes.{bits}
 use Rattle.outcomes.proofs.Stores.{more-values}
 use Rattle.outcomes.proofs.AdjointToWords.store.Goals as goal

@@ -2,7 +2,7 @@ use mathlib.Core.Path.{refl}
 use Rattle.sgal3.specs.Tangents as Tangents
 use Rattle.linear.specs.Matrices as Matrices
 use Rattle.linear.specs.Vectors as Vectors
-use Rattle.law.specs.GalileanSeries as Law-as-Series
+use Rattle.law.specs.GalileanSeries as GalileanSeries
 use Rattle.sgal3.proofs.Tangent.exp_by.Goals as goal
 
 pub returns : goal.returns
@@ -12,4 +12,4 @@ returns c = rw (
   c.apply-2.ensures,
   c.apply.ensures,
   c.apply-velocity.ensures,
-) (unfold Tangents.exp_by Matrices.apply Vectors.add Vectors.scale Law-as-Series.exp_by in refl)
+) (unfold Tangents.exp_by Matrices.apply Vectors.add Vectors.scale GalileanSeries.exp_by in refl)

@@ -1,0 +1,2 @@
+pub mod DigitsStored
+pub mod LinesStored

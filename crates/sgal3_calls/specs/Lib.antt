@@ -1,0 +1,4 @@
+pub mod Composition
+pub mod Outcomes
+pub mod Order
+pub mod Parts

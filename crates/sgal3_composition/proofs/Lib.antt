@@ -1,5 +1,0 @@
-pub mod Blocks
-pub mod Answers
-pub mod Order
-pub mod NotUnit
-pub mod Generic

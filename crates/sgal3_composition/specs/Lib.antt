@@ -1,3 +1,0 @@
-pub mod Calls
-pub mod Outcomes
-pub mod Order
