@@ -249,7 +249,7 @@ bench-turns: lib
 
 stack: lib sgal3-lib
 	@tools/stack target/lib/libhandset.a $$(sed -n 's/^uint32_t \(sgal3_[a-z_]*\)(.*/\1/p' include/handset.h)
-	@tools/stack target/staticlib/libsgal3_export.a sgal3_exp sgal3_log so3_log sgal3_adjoint sgal3_short_adjoint
+	@tools/stack target/staticlib/libsgal3_export.a sgal3_exp sgal3_log so3_log sgal3_adjoint sgal3_short_adjoint sgal3_act sgal3_act_event
 
 sgal3-lib: toolchain-check
 	@$(call STATIC_LIBRARY,sgal3_export)

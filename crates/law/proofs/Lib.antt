@@ -10,4 +10,5 @@ pub mod Filled
 pub mod Model
 pub mod Hat
 pub mod Action
+pub mod Events
 pub mod Orders

@@ -17,7 +17,7 @@ use Rattle.law.specs.ClosedForms as ClosedForms
 use Rattle.law.specs.Orders.{Worked, worked_orders, worked_series, worked_closed_forms}
 
 pub orders : map (λ (w : Worked). w.computed) worked_orders ≡ map (λ (w : Worked). w.said) worked_orders
-unfolding worked_orders Rows.by_row Galilean.identity Galilean.normalize Galilean.inverse_jacobian Galilean.compose_jacobian_self Galilean.jacobian_identity Galilean.act_jacobian_self Galilean.act_jacobian_self_at Galilean.rotation_matrix Galilean.compose Galilean.compose_at Galilean.inverse Galilean.inverse_at Galilean.act Galilean.act_at Galilean.matrix Galilean.matrix_at Galilean.adjoint Galilean.opened Galilean.by_blocks Galilean.adjoint_at Galilean.small_adj Galilean.lie_bracket Galilean.apply_tangent Galilean.coeffs Galilean.tangent Galilean.lie_algebra Galilean.hat Galilean.rotation_impl Galilean.row5 Galilean.row10 Rows.dot Rows.apply Rows.neg Rotation.normalize Rotation.compose Rotation.inverse Rotation.act Rotation.rotation_matrix Rotation.unit_quaternion Quaternion.identity Quaternion.mul Quaternion.normalize Quaternion.divide Quaternion.norm Quaternion.norm_squared Quaternion.conjugate Quaternion.rotate Quaternion.vector Quaternion.rotation_matrix Matrix.identity Matrix.hat Matrix.mul Matrix.row_by Matrix.scale Matrix.neg Matrix.sub Vector.zero Vector.add Vector.sub Vector.neg Vector.scale Vector.cross Vector.dot Vector.norm Vector.norm_squared add sub mul div neg square_root nearest_root count isqrt sum round size span climb odd units count_trailing_zeros of_fields of_bits to_bits
+unfolding worked_orders Rows.by_row Galilean.act_event Galilean.act_event_at Galilean.identity Galilean.normalize Galilean.inverse_jacobian Galilean.compose_jacobian_self Galilean.jacobian_identity Galilean.act_jacobian_self Galilean.act_jacobian_self_at Galilean.rotation_matrix Galilean.compose Galilean.compose_at Galilean.inverse Galilean.inverse_at Galilean.act Galilean.act_at Galilean.matrix Galilean.matrix_at Galilean.adjoint Galilean.opened Galilean.by_blocks Galilean.adjoint_at Galilean.small_adj Galilean.lie_bracket Galilean.apply_tangent Galilean.coeffs Galilean.tangent Galilean.lie_algebra Galilean.hat Galilean.rotation_impl Galilean.row5 Galilean.row10 Rows.dot Rows.apply Rows.neg Rotation.normalize Rotation.compose Rotation.inverse Rotation.act Rotation.rotation_matrix Rotation.unit_quaternion Quaternion.identity Quaternion.mul Quaternion.normalize Quaternion.divide Quaternion.norm Quaternion.norm_squared Quaternion.conjugate Quaternion.rotate Quaternion.vector Quaternion.rotation_matrix Matrix.identity Matrix.hat Matrix.mul Matrix.row_by Matrix.scale Matrix.neg Matrix.sub Vector.zero Vector.add Vector.sub Vector.neg Vector.scale Vector.cross Vector.dot Vector.norm Vector.norm_squared add sub mul div neg square_root nearest_root count isqrt sum round size span climb odd units count_trailing_zeros of_fields of_bits to_bits
 orders = refl
 
 pub series-orders : map (λ (w : Worked). w.computed) worked_series ≡ map (λ (w : Worked). w.said) worked_series

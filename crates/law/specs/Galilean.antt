@@ -17,6 +17,11 @@ pub record Element (A : Type 0) : Type 0 where
   pub velocity : Vector A
   pub time : A
 
+-- a point with a time of its own
+pub record Event (A : Type 0) : Type 0 where
+  pub point : Vector A
+  pub time : A
+
 pub record Tangent (A : Type 0) : Type 0 where
   pub rho : Vector A
   pub nu : Vector A
@@ -91,6 +96,17 @@ module _ {A : Type 0} (o : Arithmetic A) where
 
   unfoldable pub act : Element A → Vector A → Vector A
   act a p = act_at (Rotation.unit_quaternion o (rotation_impl a)) a p
+
+  -- ((R p + v tau) + t, tau + s): the point is taken at the event's own time tau
+  unfoldable pub act_event_at : Quaternion A → Element A → Event A → Event A
+  act_event_at q a e =
+      record {
+        point = (rotate q e.point ⊕ᵥ a.velocity · e.time) ⊕ᵥ a.translation;
+        time = e.time ⊕ a.time;
+      }
+
+  unfoldable pub act_event : Element A → Event A → Event A
+  act_event a e = act_event_at (Rotation.unit_quaternion o (rotation_impl a)) a e
 
   -- divides by the norm three times: once in rotation_impl, twice in SO(3)'s own
   unfoldable pub normalize : Element A → Element A

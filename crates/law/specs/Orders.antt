@@ -12,7 +12,7 @@ use Rattle.law.specs.Quaternion.{Quaternion}
 use Rattle.law.specs.Rows as Rows
 use Rattle.law.specs.Rotation as Rotation
 use Rattle.law.specs.Galilean as Galilean
-use Rattle.law.specs.Galilean.{Element, Tangent}
+use Rattle.law.specs.Galilean.{Element, Event, Tangent}
 use Rattle.law.specs.Series as Series
 use Rattle.law.specs.GalileanSeries as GalileanSeries
 use Rattle.law.specs.ClosedForms as ClosedForms
@@ -47,6 +47,9 @@ matrix_values m = Rows.by_row (vector_values m.row0 ∷ vector_values m.row1 ∷
 abbrev element_values : Element Float → List Float
 element_values a = Rows.by_row (vector_values a.translation ∷ quaternion_values a.rotation ∷ vector_values a.velocity ∷ value a.time ∷ [])
 
+abbrev event_values : Event Float → List Float
+event_values e = Rows.by_row (vector_values e.point ∷ value e.time ∷ [])
+
 abbrev tangent_values : Tangent Float → List Float
 tangent_values ξ = Rows.by_row (vector_values ξ.rho ∷ vector_values ξ.nu ∷ vector_values ξ.theta ∷ value ξ.s ∷ [])
 
@@ -62,6 +65,9 @@ quaternion w x y z = record { w = of_bits binary64 w; x = of_bits binary64 x; y 
 
 abbrev element : Vector Float → Quaternion Float → Vector Float → ℕ → Element Float
 element t q v s = record { translation = t; rotation = q; velocity = v; time = of_bits binary64 s }
+
+abbrev event : Vector Float → ℕ → Event Float
+event p t = record { point = p; time = of_bits binary64 t }
 
 abbrev tangent : Vector Float → Vector Float → Vector Float → ℕ → Tangent Float
 tangent ρ ν θ s = record { rho = ρ; nu = ν; theta = θ; s = of_bits binary64 s }
@@ -334,6 +340,16 @@ worked_orders =
     -- (R p + t) + s v, told as in compose; and normalised twice
     ∷ of vector_values (Galilean.act rounded (element (vector one tiny zero) unit (vector tiny tiny zero) one) (vector tiny one zero))
     (one ∷ one ∷ zero ∷ [])
+    -- the event action's (R p + v tau) + t, and act of the same element and point, whose time is tau: x is 1 + 2 ^ -52 here, and 1 there
+    ∷ of event_values (Galilean.act_event rounded (element (vector one zero zero) unit (vector tiny zero zero) one) (event (vector tiny zero zero) one))
+    (0x3ff0_0000_0000_0001 ∷ zero ∷ zero ∷ two ∷ [])
+    ∷ of vector_values (Galilean.act rounded (element (vector one zero zero) unit (vector tiny zero zero) one) (vector tiny zero zero))
+    (one ∷ zero ∷ zero ∷ [])
+    -- x is 1 + 2 ^ -52 if v tau + t is formed first
+    ∷ of event_values (Galilean.act_event rounded (element (vector tiny zero zero) unit (vector tiny zero zero) zero) (event (vector one zero zero) one))
+    (one ∷ zero ∷ zero ∷ one ∷ [])
+    ∷ of event_values (Galilean.act_event rounded (element origin q7·1·5·11 origin zero) (event ones zero))
+    (0xbfe8_29cb_c14e_5e06 ∷ 0x3ff1_4e5e_0a72_f055 ∷ 0x3ff1_f58d_0fac_687d ∷ zero ∷ [])
     ∷ of vector_values (Galilean.act rounded (element origin q7·1·5·11 origin zero) ones)
     (0xbfe8_29cb_c14e_5e06 ∷ 0x3ff1_4e5e_0a72_f055 ∷ 0x3ff1_f58d_0fac_687d ∷ [])
     -- the matrix, normalised twice

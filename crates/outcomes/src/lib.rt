@@ -319,6 +319,20 @@ impl ToWords for sgal3::Element {
     }
 }
 
+impl ToWords for sgal3::Event {
+    const COUNT: usize = 4;
+
+    const ZEROS: usize = 0;
+
+    ghost COUNT = { 4 };
+
+    ghost ZEROS = { 0 };
+
+    fn store(&self, out: &mut [u8]) {
+        put_values(out, HEADER, &self.coeffs());
+    }
+}
+
 impl ToWords for sgal3::Tangent {
     const COUNT: usize = 10;
 

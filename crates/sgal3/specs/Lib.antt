@@ -1,4 +1,5 @@
 pub mod Elements
+pub mod Events
 pub mod Tangents
 pub mod Matrices
 pub mod Algebra

@@ -2,9 +2,10 @@
 // normalises it, and an operation of SO(3) on that once more.
 #![tactic(auto)]
 
-ghost use Rattle.std.specs.Prelude.{◌≡◌};
+ghost use Rattle.std.specs.Prelude.{◌≡◌, length};
 ghost use Rattle.sgal3.specs.Algebra as Algebra;
 ghost use Rattle.sgal3.specs.Elements as Elements;
+ghost use Rattle.sgal3.specs.Events as Events;
 ghost use Rattle.sgal3.specs.Group as SGal3;
 ghost use Rattle.sgal3.specs.Matrices as Matrices;
 ghost use Rattle.sgal3.specs.Tangents as Tangents;
@@ -19,6 +20,9 @@ pub const DOF: usize = 10;
 
 // How many values an element has.
 pub const REP_SIZE: usize = 11;
+
+// How many values an event has.
+pub const EVENT_SIZE: usize = 4;
 
 // A block's values in their order: translation, quaternion w, x, y, z, velocity, time.
 #[derive(Clone, Copy)]
@@ -36,6 +40,43 @@ pub struct Tangent {
     pub nu: Vec3,
     pub theta: Vec3,
     pub s: f64,
+}
+
+// A point with a time of its own. A block's values in their order.
+#[derive(Clone, Copy)]
+pub struct Event {
+    pub point: Vec3,
+    pub time: f64,
+}
+
+impl Event {
+    // The four values of a block.
+    #[tactic(auto, unfolding(crate::specs::Events::coeffs))]
+    pub fn coeffs(self) -> [f64; EVENT_SIZE]
+        ensures { result ≡ Events.coeffs self }
+    {
+        let p = self.point;
+        [p.x, p.y, p.z, self.time]
+    }
+
+    #[tactic(auto, unfolding(crate::specs::Events::event_of))]
+    pub fn event_of(s: &[f64]) -> Event
+        requires { length s.now ≡ EVENT_SIZE }
+        ensures { result ≡ Events.event_of s.now }
+    {
+        Event {
+            point: manifold::vector_at(s, 0),
+            time: s[3],
+        }
+    }
+}
+
+impl Values for Event {
+    ghost values = { Events.coeffs };
+
+    fn is_finite(&self) -> bool {
+        checks::all_finite(&self.coeffs())
+    }
 }
 
 impl Element {
@@ -64,6 +105,21 @@ impl Element {
         let q = self.rotation;
         let v = self.velocity;
         [t.x, t.y, t.z, q.w, q.x, q.y, q.z, v.x, v.y, v.z, self.time]
+    }
+
+    // The point is taken at the event's own time: (R·p + v·tau) + t, where act adds t before v·s.
+    pub fn act_event(self, event: Event) -> Event
+        ensures { result ≡ Events.act_event self event }
+    {
+        let point = self
+            .rotation_quaternion()
+            .rotate(event.point)
+            .add(self.velocity.scale(event.time))
+            .add(self.translation);
+        Event {
+            point,
+            time: event.time + self.time,
+        }
     }
 
     // Log by the rotation's own, and the inverse of the left Jacobian and M of its theta.

@@ -1,11 +1,14 @@
-// exp, and log of both groups and the adjoint, short and in full, at 1e-6, for C and Rust, to be timed there: a call on a block of values, and its
-// outcome as bytes.
+// exp, log of both groups, the adjoint, short and in full, and act on a point and on an event, at 1e-6, for C and Rust, to be timed there: a call on blocks
+// of values, and its outcome as bytes.
 #![tactic(auto)]
 
 ghost use Rattle.checks.specs.Checks as Checks;
 ghost use Rattle.manifold_calls.specs.Calls as Calls;
 ghost use Rattle.outcomes.specs.Outcomes as Outcomes;
+ghost use Rattle.linear.specs.Records.{vector_values};
 ghost use Rattle.sgal3.specs.Elements as Elements;
+ghost use Rattle.sgal3.specs.Events as Events;
+ghost use Rattle.sgal3_calls.specs.Events as EventCalls;
 ghost use Rattle.sgal3.specs.Group.{group, tangents};
 ghost use Rattle.sgal3.specs.Tangents as Tangents;
 ghost use Rattle.ten_rows.specs.Adjoints as Adjoints;
@@ -63,5 +66,25 @@ pub extern "C" fn sgal3_short_adjoint(block: &[f64], out: &mut [u8; 344]) -> usi
     outcomes::put(
         out,
         manifold_calls::short_adjoint::<Element>(block, checks::quaternion_norm_tolerance()),
+    )
+}
+
+#[unsafe(no_mangle)]
+pub extern "C" fn sgal3_act(block: &[f64], vector: &[f64], out: &mut [u8; LONGEST]) -> usize
+    ensures { Outcomes.Put result out.old out.new (Outcomes.of vector_values 0 (Calls.act group block.now vector.now Checks.quaternion_norm_tolerance)) }
+{
+    outcomes::put(
+        out,
+        manifold_calls::act::<Element>(block, vector, checks::quaternion_norm_tolerance()),
+    )
+}
+
+#[unsafe(no_mangle)]
+pub extern "C" fn sgal3_act_event(block: &[f64], event: &[f64], out: &mut [u8; LONGEST]) -> usize
+    ensures { Outcomes.Put result out.old out.new (Outcomes.of Events.coeffs 0 (EventCalls.act_event block.now event.now Checks.quaternion_norm_tolerance)) }
+{
+    outcomes::put(
+        out,
+        sgal3_calls::events::act_event(block, event, checks::quaternion_norm_tolerance()),
     )
 }

@@ -7,11 +7,13 @@ use Rattle.ten_rows.specs.Adjoints as Adjoints
 use Rattle.ten_rows.specs.TenRows as TenRows
 use Rattle.so3.specs.Elements as So3Elements
 use Rattle.sgal3.specs.Elements as Elements
+use Rattle.sgal3.specs.Events as Events
 use Rattle.sgal3.specs.Tangents as Tangents
 use Rattle.sgal3.specs.Algebra as Algebra
 use Rattle.sgal3.specs.Group.{group, tangents}
 use Rattle.sgal3_calls.specs.Composition as Composition
 use Rattle.sgal3_calls.specs.Parts as Parts
+use Rattle.sgal3_calls.specs.Events as EventCalls
 use Rattle.outcomes.specs.Outcomes as Outcomes
 use Rattle.outcomes.specs.declared.Request.{Request}
 
@@ -95,6 +97,10 @@ short_call r =
     (cond (eqb r.call 114) (Some (Outcomes.of Adjoints.values 39 (Calls.short_right_plus_jacobian_self group tangents Adjoints.values r.left.now r.right.now (Outcomes.tolerance r))))
     None))
 
+-- how an element acts on an event
+unfoldable pub event_call : Request → Option (List ℕ)
+event_call r = cond (eqb r.call 115) (Some (Outcomes.of Events.coeffs 0 (EventCalls.act_event r.left.now r.right.now (Outcomes.tolerance r)))) None
+
 unfoldable pub answer : Request → Option (List ℕ)
 answer r =
     cond (ltb r.call 79) (element_call r)
@@ -103,4 +109,5 @@ answer r =
     (cond (ltb r.call 100) (matrix_call r)
     (cond (ltb r.call 106) (plus_call r)
     (cond (ltb r.call 112) (between_call r)
-    (short_call r))))))
+    (cond (ltb r.call 115) (short_call r)
+    (event_call r)))))))

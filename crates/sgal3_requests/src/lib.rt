@@ -206,6 +206,20 @@ fn short_call(r: Request<'_>, out: &mut [u8; LONGEST]) -> Option<usize>
     }
 }
 
+// How an element acts on an event.
+#[tactic(auto, unfolding(crate::specs::Requests::event_call, outcomes::specs::Outcomes::Answered))]
+fn event_call(r: Request<'_>, out: &mut [u8; LONGEST]) -> Option<usize>
+    ensures { Outcomes.Answered result out.old out.new (Requests.event_call r.entry) }
+{
+    match r.call {
+        115 => Some(outcomes::put(
+            out,
+            sgal3_calls::events::act_event(r.left, r.right, r.tolerance()),
+        )),
+        _ => None,
+    }
+}
+
 #[tactic(auto, unfolding(crate::specs::Requests::answer, outcomes::specs::Outcomes::Answered))]
 pub fn answer(r: Request<'_>, out: &mut [u8; LONGEST]) -> Option<usize>
     ensures { Outcomes.Answered result out.old out.new (Requests.answer r.entry) }
@@ -228,5 +242,8 @@ pub fn answer(r: Request<'_>, out: &mut [u8; LONGEST]) -> Option<usize>
     if r.call < 112 {
         return between_call(r, out);
     }
-    short_call(r, out)
+    if r.call < 115 {
+        return short_call(r, out);
+    }
+    event_call(r, out)
 }

@@ -8,7 +8,7 @@ use Rattle.checks.specs.Outcomes.{Outcome, outcome}
 use Rattle.checks.specs.declared.Figures.{Figures}
 use Rattle.checks.specs.declared.Figures.TheVariants as Figures
 use Rattle.checks.specs.declared.Refusal.{Refusal}
-use Rattle.law.specs.Patterns.{zero, minus_zero, half, minus_half, one, minus_one, two, minus_two, two_and_a_half, three, minus_three, four, minus_four, ten}
+use Rattle.law.specs.Patterns.{zero, minus_zero, half, minus_half, one, minus_one, two, minus_two, two_and_a_half, three, minus_three, four, minus_four, nine, ten}
 use Rattle.linear.specs.declared.Vec3.{Vec3}
 use Rattle.linear.specs.declared.Mat3.{Mat3}
 use Rattle.manifold.specs.Group.{validate_params}
@@ -27,7 +27,9 @@ use Rattle.sgal3.specs.Group as SGal3
 use Rattle.sgal3.specs.Outcomes as GalileanOutcomes
 use Rattle.sgal3.specs.declared.Element.{Element}
 use Rattle.sgal3.specs.declared.Tangent.{Tangent}
+use Rattle.sgal3.specs.declared.Event.{Event}
 use Rattle.sgal3_calls.specs.Composition as Composition
+use Rattle.sgal3_calls.specs.Events as EventCalls
 use Rattle.sgal3_calls.specs.Outcomes as ElementOutcome
 use Rattle.handset.specs.Entries as Entries
 
@@ -55,6 +57,9 @@ answer a = patterns (ElementOutcome.element a)
 
 abbrev galilean_tangent : Result Tangent Refusal → List ℕ
 galilean_tangent a = patterns (GalileanOutcomes.tangent a)
+
+abbrev event : Result Event Refusal → List ℕ
+event a = patterns (GalileanOutcomes.event a)
 
 abbrev rotation : Result So3Element Refusal → List ℕ
 rotation a = patterns (RotationOutcomes.element a)
@@ -187,6 +192,16 @@ bench_list =
     ∷ says (vector (so3_act (floats (zero ∷ zero ∷ zero ∷ one ∷ [])) p123 quaternion_norm_tolerance)) (0 ∷ minus_one ∷ minus_two ∷ three ∷ [])
     ∷ says (vector (sgal3_act (turned (half ∷ half ∷ half ∷ half ∷ [])) p123 quaternion_norm_tolerance)) (0 ∷ three ∷ one ∷ two ∷ [])
     ∷ says (vector (sgal3_act (turned (zero ∷ zero ∷ zero ∷ one ∷ [])) p123 quaternion_norm_tolerance)) (0 ∷ minus_one ∷ minus_two ∷ three ∷ [])
+    -- events, worked by hand: A on the event of the origin at 2, and at A's own time, where act gives the same point
+    ∷ says (event (EventCalls.act_event A (floats (zero ∷ zero ∷ zero ∷ two ∷ [])) quaternion_norm_tolerance)) (0 ∷ nine ∷ two ∷ three ∷ two_and_a_half ∷ [])
+    ∷ says (event (EventCalls.act_event A (floats (zero ∷ zero ∷ zero ∷ half ∷ [])) quaternion_norm_tolerance)) (0 ∷ three ∷ two ∷ three ∷ one ∷ [])
+    ∷ says (vector (sgal3_act A (floats (zero ∷ zero ∷ zero ∷ [])) quaternion_norm_tolerance)) (0 ∷ three ∷ two ∷ three ∷ [])
+    -- t = (1, 1, 1), the turn that takes (1, 2, 3) to (3, 1, 2), v = (0, 2, 0) and s = 2, on the event (1, 2, 3) at 0.5
+    ∷ says (event (EventCalls.act_event (floats (one ∷ one ∷ one ∷ half ∷ half ∷ half ∷ half ∷ zero ∷ two ∷ zero ∷ two ∷ [])) (floats (one ∷ two ∷ three ∷ half ∷ [])) quaternion_norm_tolerance))
+    (0 ∷ four ∷ three ∷ three ∷ two_and_a_half ∷ [])
+    -- an event of three values, and one with a NaN beside an element of norm 2: 1, 2
+    ∷ says (event (EventCalls.act_event A p123 quaternion_norm_tolerance)) (1 ∷ 4 ∷ 3 ∷ [])
+    ∷ says (event (EventCalls.act_event (block two zero) (floats (zero ∷ zero ∷ zero ∷ nan ∷ [])) quaternion_norm_tolerance)) (2 ∷ [])
     -- w = 1 + 2 ^ -20 is accepted; w = 1 + 2 ^ -19, 2 ^ 511: 3 with that norm; 2 ^ 512: 2; all four zero: 3, norm 0
     ∷ says (check (validate_params SGal3.group (block 0x3ff0_0001_0000_0000 zero) quaternion_norm_tolerance)) (0 ∷ [])
     ∷ says (check (validate_params SGal3.group (block 0x3ff0_0002_0000_0000 zero) quaternion_norm_tolerance)) (3 ∷ 0x3ff0_0002_0000_0000 ∷ [])

@@ -1,4 +1,4 @@
-//! exp, log of both groups and adjoint, in both its forms, on blocks of values, each through an entry that is there for timing alone: the library's and,
+//! exp, log of both groups, adjoint, in both its forms, and act, on a point and on an event, on blocks of values, each through an entry that is there for timing alone: the library's and,
 //! behind functions of the same signature, the Rust source's own.
 //!
 //! The outcome is words: the refusal's number, two figures, how many values follow, their bits. rust/reference/README.md has the format.
@@ -13,7 +13,25 @@ const TURN_LIMIT: f64 = 9.0;
 /// A block, and the outcome's place: how many bytes were put there.
 pub type Entry = unsafe extern "C" fn(*const f64, usize, *mut [u8; OUTCOME]) -> usize;
 
+/// Two blocks, and the outcome's place.
+pub type PairEntry =
+    unsafe extern "C" fn(*const f64, usize, *const f64, usize, *mut [u8; OUTCOME]) -> usize;
+
 extern "C" {
+    pub fn sgal3_act(
+        block: *const f64,
+        len: usize,
+        vector: *const f64,
+        vector_len: usize,
+        out: *mut [u8; OUTCOME],
+    ) -> usize;
+    pub fn sgal3_act_event(
+        block: *const f64,
+        len: usize,
+        event: *const f64,
+        event_len: usize,
+        out: *mut [u8; OUTCOME],
+    ) -> usize;
     pub fn sgal3_exp(tangent: *const f64, len: usize, out: *mut [u8; OUTCOME]) -> usize;
     pub fn sgal3_log(block: *const f64, len: usize, out: *mut [u8; OUTCOME]) -> usize;
     pub fn so3_log(block: *const f64, len: usize, out: *mut [u8; OUTCOME]) -> usize;

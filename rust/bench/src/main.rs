@@ -378,6 +378,41 @@ fn call_times(call: &Call) -> [f64; 2] {
     rounds.map(median)
 }
 
+/// act and act_event of the same elements, at points that are the events' own.
+fn act_table() {
+    let mut g = Random(3);
+    let pairs: Vec<_> = (0..CHAIN_MOST)
+        .map(|_| (unit_element(&mut g), values(&mut g, 4, 1.0)))
+        .collect();
+    let entries: [(calls::PairEntry, usize); 2] =
+        [(calls::sgal3_act, 3), (calls::sgal3_act_event, 4)];
+    let mut rounds = entries.map(|_| Vec::with_capacity(ROUNDS));
+    let mut out = [0; calls::OUTCOME];
+    for _ in 0..ROUNDS {
+        for ((entry, count), list) in entries.iter().zip(&mut rounds) {
+            let start = Instant::now();
+            for (element, event) in black_box(&pairs) {
+                // SAFETY: each pointer is that of at least as many values as the length says, and `out` is borrowed mutably.
+                black_box(unsafe {
+                    entry(
+                        element.as_ptr(),
+                        element.len(),
+                        event.as_ptr(),
+                        *count,
+                        black_box(&mut out),
+                    )
+                });
+                assert_eq!(out[0], 0, "a call of the benchmark was refused");
+            }
+            list.push(start.elapsed().as_nanos() as f64 / pairs.len() as f64);
+        }
+    }
+    let [act, event] = rounds.map(median);
+    println!("| act, ns | act_event, ns | act_event / act |");
+    println!("|---:|---:|---:|");
+    println!("| {act:.1} | {event:.1} | {:.2} |", event / act);
+}
+
 fn main() {
     let fixed = [
         class("normalised twice", unit, CANDIDATES),
@@ -409,6 +444,8 @@ fn main() {
     run_table(&fixed);
     println!();
     call_table();
+    println!();
+    act_table();
 }
 
 /// Steps of one kind, and who is timed on them.

@@ -164,6 +164,15 @@ fn half_angle(rotation: &SO3) -> f64 {
     sines::half_angle(sin_angle_squared.sqrt(), q.w.abs())
 }
 
+/// By docs/src's own pieces, in the order that the scope gives: docs/src has no action on events.
+fn act_event(request: &Request, to: To) -> bool {
+    let a = element(&request.first);
+    let [x, y, z, tau] = values(&request.second);
+    let turned = a.rotation_so3().act(&Vector3::new(x, y, z), None, None);
+    let point = turned + a.velocity() * tau + a.translation();
+    list(to, point.as_slice()) && list(to, &[tau + a.time()])
+}
+
 /// The three rows that docs/src fills.
 fn act_jacobian_self(request: &Request, to: To) -> bool {
     let mut jacobian = SGal3::zero_jacobian();
@@ -300,6 +309,8 @@ const FUNCTIONS: &[(&str, Function)] = &[
     ("sgal3_short_adjoint", |x, to| short(to, element(&x.first).adjoint())),
     ("sgal3_short_compose_jacobian_self", |x, to| short_jacobian(to, |j| element(&x.first).compose(&element(&x.second), j, None))),
     ("sgal3_short_right_plus_jacobian_self", |x, to| short_jacobian(to, |j| element(&x.first).right_plus(&sgal3_tangent(&x.second), j, None))),
+    // ---- SGal(3): events
+    ("sgal3_act_event", |x, to| act_event(x, to)),
 ];
 
 #[cfg(test)]

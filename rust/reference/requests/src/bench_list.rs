@@ -158,6 +158,47 @@ pub fn lines() -> Vec<Line> {
         accepted(&[-1.0, -2.0, 3.0]),
     );
 
+    let origin = [0.0; 3];
+    for (says, tau, answer) in [
+        ("A on the origin at 2", 2.0, [9.0, 2.0, 3.0, 2.5]),
+        ("A on the origin at A's own time", 0.5, [3.0, 2.0, 3.0, 1.0]),
+    ] {
+        let event = [0.0, 0.0, 0.0, tau];
+        line(says, "sgal3_act_event", &A, &event, accepted(&answer));
+    }
+    let turned_step = [1.0, 1.0, 1.0, 0.5, 0.5, 0.5, 0.5, 0.0, 2.0, 0.0, 2.0];
+    line(
+        "a turned step on the event (1, 2, 3) at 0.5",
+        "sgal3_act_event",
+        &turned_step,
+        &[1.0, 2.0, 3.0, 0.5],
+        accepted(&[4.0, 3.0, 3.0, 2.5]),
+    );
+    line(
+        "an event of three values",
+        "sgal3_act_event",
+        &A,
+        &point,
+        refused(Refusal::Length {
+            expected: 4,
+            actual: 3,
+        }),
+    );
+    line(
+        "an event with a NaN beside norm 2",
+        "sgal3_act_event",
+        &[0.0, 0.0, 0.0, 2.0, 0.0, 0.0, 0.0, 0.0, 0.0, 0.0, 0.0],
+        &[0.0, 0.0, 0.0, f64::NAN],
+        refused(Refusal::NotFinite),
+    );
+    line(
+        "A on the origin",
+        "sgal3_act",
+        &A,
+        &origin,
+        accepted(&[3.0, 2.0, 3.0]),
+    );
+
     for (says, w, outcome) in [
         ("w = 1 + 2^-20", 1.0 + power(-20), accepted(&[])),
         (

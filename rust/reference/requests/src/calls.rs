@@ -16,6 +16,8 @@ pub enum Block {
     So3Tangent,
     /// A point or another vector of three values.
     Vector,
+    /// A point and a time.
+    Event,
     /// Elements of SGal(3) laid end to end.
     Chain,
     /// Eleven values of which only the length is checked.
@@ -32,7 +34,7 @@ impl Block {
         match self {
             Block::Absent => 0,
             Block::Element | Block::Chain | Block::AnyElement => 11,
-            Block::Rotation | Block::AnyRotation => 4,
+            Block::Rotation | Block::AnyRotation | Block::Event => 4,
             Block::Sgal3Tangent => 10,
             Block::So3Tangent | Block::Vector => 3,
             Block::Number => 1,
@@ -66,6 +68,7 @@ pub enum Answer {
     Sgal3Tangent,
     So3Tangent,
     Vector,
+    Event,
     /// One value.
     Number,
     /// The eleven values of an element, in a place of their own.
@@ -84,7 +87,7 @@ impl Answer {
             Answer::Nothing => 0,
             Answer::YesOrNo | Answer::Number => 1,
             Answer::Element | Answer::Coefficients | Answer::AsGiven => 11,
-            Answer::Rotation => 4,
+            Answer::Rotation | Answer::Event => 4,
             Answer::Sgal3Tangent => 10,
             Answer::So3Tangent | Answer::Vector => 3,
             Answer::Matrix(values) | Answer::Generator(values) => values,
@@ -337,6 +340,8 @@ pub const CALLS: &[Call] = &[
     entry(112, "sgal3_short_adjoint", B::Element, B::Absent, ADJOINT, Untested, OVERFLOWS),
     entry(113, "sgal3_short_compose_jacobian_self", B::Element, B::Element, ADJOINT, Untested, OVERFLOWS),
     entry(114, "sgal3_short_right_plus_jacobian_self", B::Element, B::Sgal3Tangent, ADJOINT, Exp, OVERFLOWS),
+    // ---- SGal(3): events
+    entry(115, "sgal3_act_event", B::Element, B::Event, A::Event, Untested, OVERFLOWS),
 ];
 
 #[cfg(test)]
@@ -357,8 +362,8 @@ mod tests {
     #[test]
     fn which_calls_have_a_tolerance() {
         let count = |has: fn(&Call) -> bool| CALLS.iter().filter(|call| has(call)).count();
-        assert_eq!(count(Call::checks_norms), 74);
-        assert_eq!(count(Call::has_tolerance), 76);
+        assert_eq!(count(Call::checks_norms), 75);
+        assert_eq!(count(Call::has_tolerance), 77);
         assert_eq!(count(|call| call.has_tolerance() && call.has_index()), 0);
     }
 }

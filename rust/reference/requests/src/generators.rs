@@ -87,6 +87,10 @@ impl Generator {
         let pair = matches!(call.turn, Turn::Log(_)) && call.second != Block::Absent;
         self.fill(call.first, aimed && !pair, extreme, &mut request.first);
         self.fill(call.second, aimed, extreme, &mut request.second);
+        // at the element's own time, where act has the same point but for the order of the additions
+        if call.second == Block::Event && self.random.once_in(4) {
+            request.second[3] = request.first[10];
+        }
         if pair && aimed || call.second == call.first && self.random.once_in(8) {
             self.bring_near(call, request);
         }
@@ -140,6 +144,12 @@ impl Generator {
             Block::Vector => {
                 let vector = self.vector(extreme);
                 put(to, vector);
+            }
+            Block::Event => {
+                let vector = self.vector(extreme);
+                let time = self.vector(extreme)[0];
+                put(to, vector);
+                put(to, [time]);
             }
             Block::Number => {
                 let number = self.number();

@@ -52,6 +52,7 @@ fn held(block: Block) -> Option<&'static str> {
         Block::Rotation => "rotation",
         Block::Sgal3Tangent | Block::So3Tangent => "tangent",
         Block::Vector => "vector",
+        Block::Event => "event",
         Block::Chain => "chain",
         Block::AnyElement => "any eleven values",
         Block::AnyRotation => "any four values",
