@@ -5,6 +5,11 @@ ghost use Rattle.std.specs.Prelude.{◌≡◌, ℕ, ◌+◌, ◌*◌, ◌≤◌,
 ghost use Rattle.std.proofs.lemmas.List.Edits.{sets};
 ghost use Rattle.linear.specs.Records.{matrix_values};
 ghost use Rattle.ten_rows.specs.TenRows as TenRows;
+ghost use Rattle.so3.specs.Elements as So3Elements;
+ghost use Rattle.so3.specs.Tangents as So3Tangents;
+ghost use Rattle.sgal3.specs.Elements as Elements;
+ghost use Rattle.sgal3.specs.Events as Events;
+ghost use Rattle.sgal3.specs.Tangents as Tangents;
 ghost use Rattle.outcomes.specs.Outcomes as Outcomes;
 
 use checks::{Figures, Refusal};
@@ -277,11 +282,11 @@ impl ToWords for Adjoint {
 
 // Elements and tangents have no trait in common that gives an array of their values, since its length would be a constant of that trait.
 impl ToWords for so3::Element {
-    const COUNT: usize = 4;
+    const COUNT: usize = so3::REP_SIZE;
 
     const ZEROS: usize = 0;
 
-    ghost COUNT = { 4 };
+    ghost COUNT = { So3Elements.rep_size };
 
     ghost ZEROS = { 0 };
 
@@ -291,11 +296,11 @@ impl ToWords for so3::Element {
 }
 
 impl ToWords for so3::Tangent {
-    const COUNT: usize = 3;
+    const COUNT: usize = so3::DOF;
 
     const ZEROS: usize = 0;
 
-    ghost COUNT = { 3 };
+    ghost COUNT = { So3Tangents.dof };
 
     ghost ZEROS = { 0 };
 
@@ -306,11 +311,11 @@ impl ToWords for so3::Tangent {
 }
 
 impl ToWords for sgal3::Element {
-    const COUNT: usize = 11;
+    const COUNT: usize = sgal3::REP_SIZE;
 
     const ZEROS: usize = 0;
 
-    ghost COUNT = { 11 };
+    ghost COUNT = { Elements.rep_size };
 
     ghost ZEROS = { 0 };
 
@@ -320,11 +325,11 @@ impl ToWords for sgal3::Element {
 }
 
 impl ToWords for sgal3::Event {
-    const COUNT: usize = 4;
+    const COUNT: usize = sgal3::EVENT_SIZE;
 
     const ZEROS: usize = 0;
 
-    ghost COUNT = { 4 };
+    ghost COUNT = { Events.event_size };
 
     ghost ZEROS = { 0 };
 
@@ -334,11 +339,11 @@ impl ToWords for sgal3::Event {
 }
 
 impl ToWords for sgal3::Tangent {
-    const COUNT: usize = 10;
+    const COUNT: usize = sgal3::DOF;
 
     const ZEROS: usize = 0;
 
-    ghost COUNT = { 10 };
+    ghost COUNT = { Tangents.dof };
 
     ghost ZEROS = { 0 };
 

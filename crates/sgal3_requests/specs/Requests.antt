@@ -28,7 +28,7 @@ element_call r =
     (cond (eqb r.call 75) (Some (Outcomes.of (λ x. x ∷ []) 0 (Parts.time r.left.now (Outcomes.tolerance r))))
     (cond (eqb r.call 76) (Some (Outcomes.of So3Elements.values 0 (Parts.rotation_quaternion r.left.now (Outcomes.tolerance r))))
     (cond (eqb r.call 77) (Some (Outcomes.of matrix_values 9 (Calls.rotation_matrix group r.left.now (Outcomes.tolerance r))))
-    (cond (eqb r.call 78) (Some (Outcomes.of (λ s. s) 11 (Parts.coeffs r.left.now (Outcomes.tolerance r))))
+    (cond (eqb r.call 78) (Some (Outcomes.of (λ s. s) Elements.rep_size (Parts.coeffs r.left.now (Outcomes.tolerance r))))
     None))))))))
 
 -- the logarithm of an element of the Galilean group, and what it acts on
