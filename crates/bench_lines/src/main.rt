@@ -2,16 +2,20 @@
 // of is_valid its answer as well, 1 for yes and 0 for no.
 #![tactic(auto)]
 
-ghost use Rattle.std.specs.Prelude.{◌≡◌};
+ghost use Rattle.std.specs.Prelude.{◌≡◌, Bool, List, Float};
+ghost use Rattle.checks.specs.Outcomes.{outcome};
+ghost use Rattle.manifold.specs.Outcomes.{valid};
 ghost use Rattle.bench_lines.specs.Numbers as Numbers;
 
 use checks::Refusal;
 use std::io;
 
-// The number is what is printed, and so is yes or no below.
-#[tactic(auto, unfolding(crate::specs::Numbers::number, checks::specs::Outcomes::outcome))]
+// The number of the answer's outcome. Each type of answer defines its outcome by `outcome`, with values of its own, so this is said of all values. The number is what is
+// printed, and so is yes or no below.
+#[tactic(auto, unfolding(checks::specs::Outcomes::outcome))]
 fn number<T: Copy>(answer: Result<T, Refusal>) -> u32
-    ensures { result ≡ Numbers.number answer }
+    ensures of_values { (values : T → List Float) → (refused : List Float) → result ≡ (outcome values refused answer).number }
+    ensures of_yes_or_no { (values : T → List Bool) → (refused : List Bool) → result ≡ (outcome values refused answer).number }
 {
     match answer {
         Ok(_) => 0,
@@ -19,9 +23,9 @@ fn number<T: Copy>(answer: Result<T, Refusal>) -> u32
     }
 }
 
-#[tactic(auto, unfolding(crate::specs::Numbers::yes))]
+#[tactic(auto, unfolding(crate::specs::Numbers::first, manifold::specs::Outcomes::valid, checks::specs::Outcomes::outcome))]
 fn yes(answer: Result<bool, Refusal>) -> u32
-    ensures { result ≡ Numbers.yes answer }
+    ensures { result ≡ Numbers.first (valid answer).values }
 {
     match answer {
         Ok(true) => 1,

@@ -36,7 +36,7 @@ pub fn fill<R: Read>(reader: &mut R, buf: &mut [u8]) -> usize
     done
 }
 
-// The same, but a read that fails is an error, that read's; the bytes that came before it stand at the start of buf then too.
+// The same, but a read that fails is an error, that read's, which no clause can say; the bytes that came before it stand at the start of buf then too.
 pub fn try_fill<R: Read>(reader: &mut R, buf: &mut [u8]) -> io::Result<usize>
     ensures in_bounds { IfOk result (λ n. n ≤ length buf.new) }
     ensures bytes { IfOk result

@@ -27,11 +27,13 @@ pub fn is_finite_bits(b: u64) -> bool
     b % 0x8000_0000_0000_0000 < INFINITY
 }
 
-// Whether x is neither a NaN nor an infinity.
+// Whether x is neither a NaN nor an infinity. Not std's is_finite, which takes x from itself: at an infinity that would set the processor's flag of an invalid
+// operation, which a caller in C can see.
 pub fn is_finite(x: f64) -> bool
     ensures { result ≡ finite x }
 {
-    x.is_finite()
+    let infinity = 1.0 / 0.0;
+    (-infinity < x) & (x < infinity)
 }
 
 // x with its sign cleared. Not std's abs, which branches on the sign: timed beside this it takes more than twice as long where the sign can't be

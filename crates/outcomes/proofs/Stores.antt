@@ -1,15 +1,15 @@
 -- Words and values stored one by one. Assumes nothing.
 use Prim.Native.Nat.{ℕ, suc, ◌+◌, ◌*◌, ◌≤◌, ◌<◌}
-use mathlib.Core.Path.{◌≡◌, refl, sym, ap, ◌∙◌}
+use mathlib.Core.Path.{◌≡◌, refl, sym, subst, ap, ◌∙◌}
 use mathlib.Core.Bool.{Bool, true, false}
 use mathlib.Core.List.{List, [], ◌∷◌, ◌++◌, map, append-nil, append_assoc}
 use native.Mathlib.Omega.{arith}
 use native.Mathlib.Numerals.{add-one}
 use lib.ListN.{length, drop, get_or, replicate, length-append, length-replicate, drop_of_length-le}
 use lib.Seq.{sets, drop-cons}
-use lib.Ieee.{Float, binary64, to_bits}
+use lib.Ieee.{Float, nan, binary64, to_bits}
 use mir.Val.{bool_byte}
-use Rattle.std.proofs.lemmas.List.{map-append}
+use Rattle.std.proofs.lemmas.List.{map-append, get_or-replicate}
 use Rattle.words.specs.Word.{bytes_of, word_bytes}
 use Rattle.words.proofs.Stores.{sets-append}
 use Rattle.std.specs.Prelude.{Ok, Err}
@@ -49,6 +49,22 @@ next-value l at k xs d h =
 pub no_value : (l : List ℕ) (i k : ℕ) (xs : List Float) → length xs ≤ k → sets l i (bits (drop k xs)) ≡ l
 unfolding bits word_bytes
 no_value l i k xs h = ap (λ (t : List Float). sets l i (bits t)) (drop_of_length-le xs {i = k} h)
+
+-- ---- n times +0, from place k on
+zeros-length : (n k : ℕ) → k < n → k < length (replicate n rounded.zero)
+zeros-length n k h = omega (arith, length-replicate n rounded.zero, h)
+
+pub next-zero : (l : List ℕ) (at k n : ℕ) → k < n
+    → sets l (at + k * 8) (bits (drop k (replicate n rounded.zero))) ≡ sets (sets l (at + k * 8) (bytes_of (to_bits binary64 rounded.zero))) (at + (k + 1) * 8) (bits (drop (k + 1) (replicate n rounded.zero)))
+next-zero l at k n h =
+    let zeros = replicate n rounded.zero in
+    subst
+    (λ (x : Float). sets l (at + k * 8) (bits (drop k zeros)) ≡ sets (sets l (at + k * 8) (bytes_of (to_bits binary64 x))) (at + (k + 1) * 8) (bits (drop (k + 1) zeros)))
+    (get_or-replicate n k rounded.zero nan h)
+    (next-value l at k zeros nan (zeros-length n k h))
+
+pub no_zero : (l : List ℕ) (i k n : ℕ) → n ≤ k → sets l i (bits (drop k (replicate n rounded.zero))) ≡ l
+no_zero l i k n h = no_value l i k (replicate n rounded.zero) (omega (arith, length-replicate n rounded.zero, h))
 
 -- ---- an outcome
 header-length : (c : Check) (n : ℕ) → length (header_of c n) ≡ 32

@@ -1,8 +1,12 @@
 // The outcome of a call, as bytes: little-endian words for the number, two figures, how many values follow, and their bits.
 #![tactic(auto)]
 
-ghost use Rattle.std.specs.Prelude.{◌≡◌, ℕ, ◌+◌, ◌*◌, ◌≤◌, length};
+ghost use Rattle.std.specs.Prelude.{◌≡◌, ℕ, ◌+◌, ◌*◌, ◌≤◌, length, replicate};
 ghost use Rattle.std.proofs.lemmas.List.Edits.{sets};
+ghost use Rattle.std.specs.Float.{binary64};
+ghost use Rattle.std.specs.Float.Ieee.{to_bits};
+ghost use Rattle.law.specs.Rounded.{rounded};
+ghost use Rattle.words.specs.Word.{bytes_of};
 ghost use Rattle.linear.specs.Records.{matrix_values};
 ghost use Rattle.ten_rows.specs.TenRows as TenRows;
 ghost use Rattle.so3.specs.Elements as So3Elements;
@@ -160,14 +164,30 @@ pub trait ToWords: Values {
         ensures stored { out.new ≡ sets out.old HEADER (Outcomes.bits (Self.values self.now)) };
 }
 
-// The +0 are taken from an array of a hundred.
+// One +0. Not inlined: of a run of zeros that it sees whole the compiler makes a call of memset, and an archive for C needs nothing from outside.
+#[inline(never)]
+fn put_zero(out: &mut [u8], at: usize)
+    requires { at + 8 ≤ length out.old }
+    ensures { out.new ≡ sets out.old at (bytes_of (to_bits binary64 rounded.zero)) }
+{
+    words::put_value(out, at, 0.0);
+}
+
+fn put_zeros(out: &mut [u8], at: usize, n: usize)
+    requires { at + n * 8 ≤ length out.old }
+    ensures { out.new ≡ sets out.old at (Outcomes.bits (replicate n rounded.zero)) }
+{
+    for k in 0..n {
+        put_zero(out, at + k * 8);
+    }
+}
+
 fn put_refusal(out: &mut [u8], r: Refusal, zeros: usize) -> usize
-    requires most { zeros ≤ 100 }
-    requires fits { HEADER + zeros * 8 ≤ length out.old }
+    requires { HEADER + zeros * 8 ≤ length out.old }
     ensures { Outcomes.Put result out.old out.new (Outcomes.of_refusal r zeros) }
 {
     put_header(out, Err(r), zeros as u64);
-    put_values(out, HEADER, &[0.0; 100][..zeros]);
+    put_zeros(out, HEADER, zeros);
     HEADER + zeros * 8
 }
 
@@ -175,7 +195,6 @@ fn put_refusal(out: &mut [u8], r: Refusal, zeros: usize) -> usize
 pub fn put<A: ToWords, const N: usize>(out: &mut [u8; N], answer: Result<A, Refusal>) -> usize
     requires count_fits { HEADER + A.COUNT * 8 ≤ N }
     requires zeros_fit { HEADER + A.ZEROS * 8 ≤ N }
-    requires most { A.ZEROS ≤ 100 }
     ensures { Outcomes.Put result out.old out.new (Outcomes.of A.values A.ZEROS answer) }
 {
     match answer {

@@ -2,7 +2,10 @@
 // the bytes read from the system are those of a file no contract can say: the language has no model of what the operating system does.
 #![tactic(auto)]
 
-ghost use Rattle.std.specs.Prelude.{◌≡◌, ◌≤◌, ◌<◌, ◌^◌, ℕ, IfOk, List, length, take};
+ghost use Rattle.std.specs.Prelude.{◌≡◌, ◌≤◌, ◌<◌, ◌^◌, ℕ, pos, IfOk, IfErr, OnOk, List, take};
+ghost use Rattle.std.specs.Io.{ReadsAtMost};
+ghost use Rattle.std.specs.Io.KnownBytes.{ReadConsumes};
+ghost use Rattle.std.specs.IoError.{raw_os_error};
 ghost use Rattle.report_run.specs.Reports.{Written, Reported, ReportedWhole};
 
 use std::io;
@@ -45,6 +48,43 @@ pub fn read_report<P: Program<SPACE, PAGE>, R: Read, const SPACE: usize, const P
     Ok(Report { read, put })
 }
 
+// A reader that keeps the error of its last read that failed; until one fails, the error of number 0. `Read` promises nothing of its errors, so no contract
+// of a function that reads from any reader can say whose error it answers: what is told of a failed read is the error that is kept here.
+#[derive(Drop)]
+pub struct Noting<R> {
+    reader: R,
+    pub error: io::Error,
+}
+
+impl<R> Noting<R> {
+    pub fn new(reader: R) -> Noting<R>
+        ensures reader { result.reader ≡ reader }
+        ensures error { raw_os_error result.error ≡ Some (pos 0) }
+    {
+        Noting {
+            reader,
+            error: io::Error::from_raw_os_error(0),
+        }
+    }
+}
+
+impl<R: Read> Read for Noting<R> {
+    ghost remaining = { λ s. R.remaining s.reader };
+
+    fn read(&mut self, buf: &mut [u8]) -> io::Result<usize>
+        ensures bound { ReadsAtMost result buf.new }
+        ensures bytes { ReadConsumes (R.remaining self.old.reader) (R.remaining self.new.reader) result buf.new }
+        ensures noted { IfErr result (λ e. self.new.error ≡ e) }
+        ensures kept { OnOk result (self.new.error ≡ self.old.error) }
+    {
+        let answer = self.reader.read(buf);
+        if let Err(e) = answer {
+            self.error = e;
+        }
+        answer
+    }
+}
+
 // The report of what the reader gives, on standard output. A read that fails is told on standard error under the reader's name, and
 // nothing is reported; a write that fails is told there too. The buffers are arrays, which have to be smaller than 2^63 bytes.
 pub fn run<P: Program<SPACE, PAGE>, R: Read, const SPACE: usize, const PAGE: usize>(
@@ -57,14 +97,15 @@ pub fn run<P: Program<SPACE, PAGE>, R: Read, const SPACE: usize, const PAGE: usi
 {
     let mut space = [0u8; SPACE];
     let mut page = [0u8; PAGE];
-    match read_report::<P, R, SPACE, PAGE>(reader, &mut space, &mut page) {
+    let mut input = Noting::new(reader);
+    match read_report::<P, _, SPACE, PAGE>(&mut input, &mut space, &mut page) {
         Ok(report) => {
             if let Err(e) = rt.write_all(&page[..report.put]) {
                 let _ = eprintln!(rt; "standard output: {e}");
             }
         }
-        Err(e) => {
-            let _ = eprintln!(rt; "{name}: {e}");
+        Err(_) => {
+            let _ = eprintln!(rt; "{name}: {}", input.error);
         }
     }
 }

@@ -2,8 +2,8 @@
 use Rattle.std.specs.Prelude.{ℕ, cond, List, eqb, ltb, Option, Some, None}
 use Rattle.manifold.specs.Group.{validate_params, from_param_slice}
 use Rattle.so3.specs.Group as So3
-use Rattle.sgal3.specs.Elements as Elements
 use Rattle.sgal3.specs.Group as SGal3
+use Rattle.sgal3_calls.specs.Outcomes.{element}
 use Rattle.outcomes.specs.Outcomes as Outcomes
 use Rattle.outcomes.specs.declared.Request.{Request}
 use Rattle.so3_requests.specs.Requests as So3Requests
@@ -14,7 +14,7 @@ unfoldable pub check_call : Request → Option (List ℕ)
 check_call r =
     cond (eqb r.call 0) (Some (Outcomes.of_check (validate_params SGal3.group r.left.now (Outcomes.tolerance r))))
     (cond (eqb r.call 1) (Some (Outcomes.of_check (validate_params So3.group r.left.now (Outcomes.tolerance r))))
-    (cond (eqb r.call 2) (Some (Outcomes.of Elements.coeffs 0 (from_param_slice SGal3.group r.left.now)))
+    (cond (eqb r.call 2) (Some (Outcomes.of_values (element (from_param_slice SGal3.group r.left.now))))
     None))
 
 unfoldable pub answer : Request → Option (List ℕ)

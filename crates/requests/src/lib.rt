@@ -10,7 +10,7 @@ use manifold::LieGroup;
 use outcomes::{LONGEST, Request};
 
 // The checks of a block, and an element as given.
-#[tactic(auto, unfolding(crate::specs::Requests::check_call, outcomes::specs::Outcomes::Answered))]
+#[tactic(auto, unfolding(crate::specs::Requests::check_call, outcomes::specs::Outcomes::Answered, outcomes::specs::Outcomes::of, sgal3_calls::specs::Outcomes::element))]
 fn check_call(r: Request<'_>, out: &mut [u8; LONGEST]) -> Option<usize>
     ensures { Outcomes.Answered result out.old out.new (Requests.check_call r.entry) }
 {

@@ -11,7 +11,7 @@ use outcomes::{LONGEST, Request};
 use sgal3::{Element, Tangent};
 
 // Elements of the Galilean group: compose, inverse, the chain, and the parts of one.
-#[tactic(auto, unfolding(crate::specs::Requests::element_call, outcomes::specs::Outcomes::Answered))]
+#[tactic(auto, unfolding(crate::specs::Requests::element_call, outcomes::specs::Outcomes::Answered, outcomes::specs::Outcomes::of, manifold::specs::Outcomes::vector, manifold::specs::Outcomes::number, manifold::specs::Outcomes::matrix, manifold::specs::Outcomes::listed, so3::specs::Outcomes::element, sgal3_calls::specs::Outcomes::element))]
 fn element_call(r: Request<'_>, out: &mut [u8; LONGEST]) -> Option<usize>
     ensures { Outcomes.Answered result out.old out.new (Requests.element_call r.entry) }
 {
@@ -40,7 +40,7 @@ fn element_call(r: Request<'_>, out: &mut [u8; LONGEST]) -> Option<usize>
 }
 
 // The logarithm of an element of the Galilean group, and what it acts on.
-#[tactic(auto, unfolding(crate::specs::Requests::log_call, outcomes::specs::Outcomes::Answered))]
+#[tactic(auto, unfolding(crate::specs::Requests::log_call, outcomes::specs::Outcomes::Answered, outcomes::specs::Outcomes::of, manifold::specs::Outcomes::vector, manifold::specs::Outcomes::matrix, sgal3::specs::Outcomes::tangent, sgal3_calls::specs::Outcomes::element))]
 fn log_call(r: Request<'_>, out: &mut [u8; LONGEST]) -> Option<usize>
     ensures { Outcomes.Answered result out.old out.new (Requests.log_call r.entry) }
 {
@@ -66,7 +66,7 @@ fn log_call(r: Request<'_>, out: &mut [u8; LONGEST]) -> Option<usize>
 }
 
 // A tangent of the Galilean group, and what takes no block.
-#[tactic(auto, unfolding(crate::specs::Requests::tangent_call, outcomes::specs::Outcomes::Answered))]
+#[tactic(auto, unfolding(crate::specs::Requests::tangent_call, outcomes::specs::Outcomes::Answered, outcomes::specs::Outcomes::of, sgal3::specs::Outcomes::tangent, sgal3_calls::specs::Outcomes::element))]
 fn tangent_call(r: Request<'_>, out: &mut [u8; LONGEST]) -> Option<usize>
     ensures { Outcomes.Answered result out.old out.new (Requests.tangent_call r.entry) }
 {
@@ -82,7 +82,7 @@ fn tangent_call(r: Request<'_>, out: &mut [u8; LONGEST]) -> Option<usize>
 }
 
 // The matrices of the Galilean group.
-#[tactic(auto, unfolding(crate::specs::Requests::matrix_call, outcomes::specs::Outcomes::Answered))]
+#[tactic(auto, unfolding(crate::specs::Requests::matrix_call, outcomes::specs::Outcomes::Answered, outcomes::specs::Outcomes::of, manifold::specs::Outcomes::listed, sgal3::specs::Outcomes::matrix10))]
 fn matrix_call(r: Request<'_>, out: &mut [u8; LONGEST]) -> Option<usize>
     ensures { Outcomes.Answered result out.old out.new (Requests.matrix_call r.entry) }
 {
@@ -114,7 +114,7 @@ fn matrix_call(r: Request<'_>, out: &mut [u8; LONGEST]) -> Option<usize>
 }
 
 // Plus of an element and a tangent, and minus of two elements, from either side.
-#[tactic(auto, unfolding(crate::specs::Requests::plus_call, outcomes::specs::Outcomes::Answered))]
+#[tactic(auto, unfolding(crate::specs::Requests::plus_call, outcomes::specs::Outcomes::Answered, outcomes::specs::Outcomes::of, sgal3::specs::Outcomes::tangent, sgal3::specs::Outcomes::matrix10, sgal3_calls::specs::Outcomes::element))]
 fn plus_call(r: Request<'_>, out: &mut [u8; LONGEST]) -> Option<usize>
     ensures { Outcomes.Answered result out.old out.new (Requests.plus_call r.entry) }
 {
@@ -149,7 +149,7 @@ fn plus_call(r: Request<'_>, out: &mut [u8; LONGEST]) -> Option<usize>
 }
 
 // What leads from one element to another; plus and minus of elements by their short names.
-#[tactic(auto, unfolding(crate::specs::Requests::between_call, outcomes::specs::Outcomes::Answered))]
+#[tactic(auto, unfolding(crate::specs::Requests::between_call, outcomes::specs::Outcomes::Answered, outcomes::specs::Outcomes::of, sgal3::specs::Outcomes::tangent, sgal3::specs::Outcomes::matrix10, sgal3_calls::specs::Outcomes::element))]
 fn between_call(r: Request<'_>, out: &mut [u8; LONGEST]) -> Option<usize>
     ensures { Outcomes.Answered result out.old out.new (Requests.between_call r.entry) }
 {
@@ -207,7 +207,7 @@ fn short_call(r: Request<'_>, out: &mut [u8; LONGEST]) -> Option<usize>
 }
 
 // How an element acts on an event.
-#[tactic(auto, unfolding(crate::specs::Requests::event_call, outcomes::specs::Outcomes::Answered))]
+#[tactic(auto, unfolding(crate::specs::Requests::event_call, outcomes::specs::Outcomes::Answered, outcomes::specs::Outcomes::of, sgal3::specs::Outcomes::event))]
 fn event_call(r: Request<'_>, out: &mut [u8; LONGEST]) -> Option<usize>
     ensures { Outcomes.Answered result out.old out.new (Requests.event_call r.entry) }
 {

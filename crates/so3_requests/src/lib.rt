@@ -11,7 +11,7 @@ use outcomes::{LONGEST, Request};
 use so3::{Element, Tangent};
 
 // A rotation, and two composed.
-#[tactic(auto, unfolding(crate::specs::Requests::rotation_call, outcomes::specs::Outcomes::Answered))]
+#[tactic(auto, unfolding(crate::specs::Requests::rotation_call, outcomes::specs::Outcomes::Answered, outcomes::specs::Outcomes::of, manifold::specs::Outcomes::matrix, so3::specs::Outcomes::element))]
 fn rotation_call(r: Request<'_>, out: &mut [u8; LONGEST]) -> Option<usize>
     ensures { Outcomes.Answered result out.old out.new (Requests.rotation_call r.entry) }
 {
@@ -48,7 +48,7 @@ fn rotation_call(r: Request<'_>, out: &mut [u8; LONGEST]) -> Option<usize>
 }
 
 // The logarithm of a rotation, and what a rotation acts on.
-#[tactic(auto, unfolding(crate::specs::Requests::rotation_log_call, outcomes::specs::Outcomes::Answered))]
+#[tactic(auto, unfolding(crate::specs::Requests::rotation_log_call, outcomes::specs::Outcomes::Answered, outcomes::specs::Outcomes::of, manifold::specs::Outcomes::vector, manifold::specs::Outcomes::matrix, so3::specs::Outcomes::element, so3::specs::Outcomes::tangent))]
 fn rotation_log_call(r: Request<'_>, out: &mut [u8; LONGEST]) -> Option<usize>
     ensures { Outcomes.Answered result out.old out.new (Requests.rotation_log_call r.entry) }
 {
@@ -76,7 +76,7 @@ fn rotation_log_call(r: Request<'_>, out: &mut [u8; LONGEST]) -> Option<usize>
 }
 
 // The exponential of a tangent of the rotations, and its Jacobians.
-#[tactic(auto, unfolding(crate::specs::Requests::rotation_exp_call, outcomes::specs::Outcomes::Answered))]
+#[tactic(auto, unfolding(crate::specs::Requests::rotation_exp_call, outcomes::specs::Outcomes::Answered, outcomes::specs::Outcomes::of, manifold::specs::Outcomes::matrix, so3::specs::Outcomes::element))]
 fn rotation_exp_call(r: Request<'_>, out: &mut [u8; LONGEST]) -> Option<usize>
     ensures { Outcomes.Answered result out.old out.new (Requests.rotation_exp_call r.entry) }
 {
@@ -92,7 +92,7 @@ fn rotation_exp_call(r: Request<'_>, out: &mut [u8; LONGEST]) -> Option<usize>
 }
 
 // The algebra of the rotations, and what takes no block.
-#[tactic(auto, unfolding(crate::specs::Requests::rotation_tangent_call, outcomes::specs::Outcomes::Answered))]
+#[tactic(auto, unfolding(crate::specs::Requests::rotation_tangent_call, outcomes::specs::Outcomes::Answered, outcomes::specs::Outcomes::of, manifold::specs::Outcomes::matrix, so3::specs::Outcomes::element, so3::specs::Outcomes::tangent))]
 fn rotation_tangent_call(r: Request<'_>, out: &mut [u8; LONGEST]) -> Option<usize>
     ensures { Outcomes.Answered result out.old out.new (Requests.rotation_tangent_call r.entry) }
 {
@@ -113,7 +113,7 @@ fn rotation_tangent_call(r: Request<'_>, out: &mut [u8; LONGEST]) -> Option<usiz
 }
 
 // Plus of a rotation and a tangent, from either side.
-#[tactic(auto, unfolding(crate::specs::Requests::rotation_plus_call, outcomes::specs::Outcomes::Answered))]
+#[tactic(auto, unfolding(crate::specs::Requests::rotation_plus_call, outcomes::specs::Outcomes::Answered, outcomes::specs::Outcomes::of, manifold::specs::Outcomes::matrix, so3::specs::Outcomes::element))]
 fn rotation_plus_call(r: Request<'_>, out: &mut [u8; LONGEST]) -> Option<usize>
     ensures { Outcomes.Answered result out.old out.new (Requests.rotation_plus_call r.entry) }
 {
@@ -148,7 +148,7 @@ fn rotation_plus_call(r: Request<'_>, out: &mut [u8; LONGEST]) -> Option<usize>
 }
 
 // Minus of two rotations, from either side.
-#[tactic(auto, unfolding(crate::specs::Requests::rotation_minus_call, outcomes::specs::Outcomes::Answered))]
+#[tactic(auto, unfolding(crate::specs::Requests::rotation_minus_call, outcomes::specs::Outcomes::Answered, outcomes::specs::Outcomes::of, manifold::specs::Outcomes::matrix, so3::specs::Outcomes::tangent))]
 fn rotation_minus_call(r: Request<'_>, out: &mut [u8; LONGEST]) -> Option<usize>
     ensures { Outcomes.Answered result out.old out.new (Requests.rotation_minus_call r.entry) }
 {
@@ -183,7 +183,7 @@ fn rotation_minus_call(r: Request<'_>, out: &mut [u8; LONGEST]) -> Option<usize>
 }
 
 // What leads from one rotation to another; plus and minus of rotations by their short names.
-#[tactic(auto, unfolding(crate::specs::Requests::rotation_between_call, outcomes::specs::Outcomes::Answered))]
+#[tactic(auto, unfolding(crate::specs::Requests::rotation_between_call, outcomes::specs::Outcomes::Answered, outcomes::specs::Outcomes::of, manifold::specs::Outcomes::matrix, so3::specs::Outcomes::element, so3::specs::Outcomes::tangent))]
 fn rotation_between_call(r: Request<'_>, out: &mut [u8; LONGEST]) -> Option<usize>
     ensures { Outcomes.Answered result out.old out.new (Requests.rotation_between_call r.entry) }
 {
@@ -230,7 +230,7 @@ fn rotation_between_call(r: Request<'_>, out: &mut [u8; LONGEST]) -> Option<usiz
 }
 
 // Sine and cosine, of one value.
-#[tactic(auto, unfolding(crate::specs::Requests::sine_call, outcomes::specs::Outcomes::Answered))]
+#[tactic(auto, unfolding(crate::specs::Requests::sine_call, outcomes::specs::Outcomes::Answered, outcomes::specs::Outcomes::of, manifold::specs::Outcomes::number))]
 fn sine_call(r: Request<'_>, out: &mut [u8; LONGEST]) -> Option<usize>
     ensures { Outcomes.Answered result out.old out.new (Requests.sine_call r.entry) }
 {
@@ -246,7 +246,7 @@ fn sine_call(r: Request<'_>, out: &mut [u8; LONGEST]) -> Option<usize>
 }
 
 // The half-angle of a rotation.
-#[tactic(auto, unfolding(crate::specs::Requests::half_angle_call, outcomes::specs::Outcomes::Answered))]
+#[tactic(auto, unfolding(crate::specs::Requests::half_angle_call, outcomes::specs::Outcomes::Answered, outcomes::specs::Outcomes::of, manifold::specs::Outcomes::number))]
 fn half_angle_call(r: Request<'_>, out: &mut [u8; LONGEST]) -> Option<usize>
     ensures { Outcomes.Answered result out.old out.new (Requests.half_angle_call r.entry) }
 {
@@ -257,7 +257,7 @@ fn half_angle_call(r: Request<'_>, out: &mut [u8; LONGEST]) -> Option<usize>
 }
 
 // Of four values: the one call that takes no block.
-#[tactic(auto, unfolding(crate::specs::Requests::quaternion_call, outcomes::specs::Outcomes::Answered))]
+#[tactic(auto, unfolding(crate::specs::Requests::quaternion_call, outcomes::specs::Outcomes::Answered, outcomes::specs::Outcomes::of, so3::specs::Outcomes::element))]
 fn quaternion_call(r: Request<'_>, out: &mut [u8; LONGEST]) -> Option<usize>
     ensures { Outcomes.Answered result out.old out.new (Requests.quaternion_call r.entry) }
 {

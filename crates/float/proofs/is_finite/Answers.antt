@@ -1,15 +1,17 @@
--- The two definitions agree at each kind of value.
-use Rattle.std.proofs.Common.{◌≡◌, ◌∙◌, refl}
-use Rattle.std.specs.Float.{float_is_finite}
-use lib.Ieee.{Float, nan, inf, fin}
+-- Each comparison with an infinity computes at each kind of value.
+use Rattle.std.proofs.Common.{◌≡◌, refl, true, false}
+use mathlib.Core.Bool.{◌&&◌}
+use lib.Ieee.{Float, nan, inf, fin, of_bits, div, neg, lt}
 use lib.Ieee.Scale.{finite}
 use Rattle.float.proofs.is_finite.Goals as goal
 
-same : (x : Float) → float_is_finite x ≡ finite x
-unfolding float_is_finite
-same nan = refl
-same (inf s) = refl
-same (fin s m e) = refl
+both : (x : Float) → (lt (inf true) x && lt x (inf false)) ≡ finite x
+unfolding lt
+both nan = refl
+both (inf true) = refl
+both (inf false) = refl
+both (fin s m e) = refl
 
 pub returns : goal.returns
-returns c = c.is_finite.ensures.value ∙ same c.args.x
+unfolding of_bits div neg
+returns c = both c.args.x
