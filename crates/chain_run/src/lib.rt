@@ -27,23 +27,13 @@ mod tests {
     use std::io;
     use std::io::{Error, ErrorKind, Read};
 
-    // Gives one byte at a time, and fails where no byte is left.
+    // Fails at once.
     #[derive(Drop)]
-    struct Broken {
-        left: usize,
-    }
+    struct Broken;
 
     impl Read for Broken {
-        fn read(&mut self, buf: &mut [u8]) -> io::Result<usize> {
-            if self.left == 0 {
-                return Err(Error::from(ErrorKind::TimedOut));
-            }
-            if buf.is_empty() {
-                return Ok(0);
-            }
-            buf[0] = 0;
-            self.left -= 1;
-            Ok(1)
+        fn read(&mut self, _buf: &mut [u8]) -> io::Result<usize> {
+            Err(Error::from(ErrorKind::TimedOut))
         }
     }
 
@@ -51,7 +41,8 @@ mod tests {
     fn a_read_that_fails_in_mid_stream_leaves_no_report(rt: HostRuntime) {
         let mut space = [0u8; SPACE];
         let mut page = [0u8; PAGE];
-        let mut input = Noting::new(Broken { left: 88 });
+        let bytes = [0u8; 88];
+        let mut input = Noting::new(bytes.as_slice().chain(Broken));
         let report = report_run::read_report::<Chain, _, _, _>(&mut input, &mut space, &mut page);
         assert!(rt; report.is_err());
         assert_eq!(rt; input.error.kind(), ErrorKind::TimedOut);

@@ -118,6 +118,8 @@ fn put_quaternion(out: &mut [u8], at: usize, q: Quaternion)
     words::put_finite_value(out, at + 24, q.z);
 }
 
+// Inlined, as `finish` of `handset` is: an element that is handed on by way of memory is copied there, on ARM by a call of memcpy.
+#[inline(always)]
 #[tactic(auto, unfolding(sgal3::specs::Elements::coeffs, checks::specs::Checks::all_finite))]
 pub fn put_element(out: &mut [u8], at: usize, e: Element)
     requires at_in_bounds { at + ELEMENT_SIZE ≤ length out.old }

@@ -18,7 +18,8 @@ use sgal3::{Element, REP_SIZE};
 use sgal3_calls::composition::MOST_BLOCKS;
 
 // 0 for an answer, or the refusal's number. An element is stored, and a refusal leaves out as it is. That out is as long as an element is a clause, since C's
-// blocks are slices.
+// blocks are slices. Inlined, so that the answer isn't copied on its way, on ARM by a call of memcpy.
+#[inline(always)]
 #[tactic(auto, unfolding(crate::specs::Steps::Finite), using(crate::proofs::Outputs::stored))]
 fn finish(answer: Result<Element, Refusal>, out: &mut [u8]) -> u32
     requires out_len { length out.old ≡ ELEMENT_SIZE }

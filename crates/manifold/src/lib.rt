@@ -111,7 +111,8 @@ impl Values for [[f64; 10]; 10] {
     }
 }
 
-// An answer whose values are finite, or the refusal.
+// An answer whose values are finite, or the refusal. Inlined, so that no answer goes through memory on its way through the test.
+#[inline(always)]
 #[tactic(auto, unfolding(crate::specs::Answers::answered))]
 pub fn answered<A: Values>(a: A) -> Result<A, Refusal>
     ensures { result ≡ Answers.answered A.values a }

@@ -182,6 +182,8 @@ fn put_zeros(out: &mut [u8], at: usize, n: usize)
     }
 }
 
+// Not inlined, so that `put` is small enough to be: else each answer goes to it by way of memory.
+#[inline(never)]
 fn put_refusal(out: &mut [u8], r: Refusal, zeros: usize) -> usize
     requires { HEADER + zeros * 8 ≤ length out.old }
     ensures { Outcomes.Put result out.old out.new (Outcomes.of_refusal r zeros) }
